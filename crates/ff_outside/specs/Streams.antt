@@ -1,0 +1,17 @@
+-- What a source gives and a sink takes, and when a call of them may fail. This project's own.
+use Rattle.std.specs.Prelude.{◌≡◌, ◌<◌, ◌≤◌, ◌⊎◌, ◌+◌, ◌-◌, ◌^◌, min, ℕ, Bool, if◌then◌else◌, List, [], length, take, drop, Option, Some}
+
+-- a fault has been counted since: the count rose, or it stands at its type's last value
+abbrev pub Rose : ℕ → ℕ → Type 0 → Type 0
+Rose before now at_last = (before < now) ⊎ at_last
+
+-- one more fault where the call failed, up to the last value of 64 bits
+abbrev pub counted : ℕ → Bool → ℕ
+counted before done = if done then before else min (before + 1) (2 ^ 64 - 1)
+
+-- n bytes were put at the front of the buffer: the first of those left, 0 exactly at the end
+pub record Gives (old : List ℕ) (new : Option (List ℕ)) (buf : List ℕ) (n : ℕ) : Type 0 where
+  pub front : take n buf ≡ take n old
+  pub rest : new ≡ Some (drop n old)
+  pub enough : n ≤ length old
+  pub end : n ≡ 0 → old ≡ []

@@ -1,0 +1,15 @@
+//! Sources and sinks of bytes, each with a count of its faults.
+#![tactic(auto)]
+
+mod memory;
+mod standard;
+mod steady;
+mod streams;
+
+pub use memory::{MemSink, MemSource};
+pub use standard::{StdSink, StdSource};
+pub use steady::{SteadySink, SteadySource};
+pub use streams::{Sink, SinkFailed, Source, SourceFailed};
+
+#[cfg(test)]
+mod tests;

@@ -1,0 +1,48 @@
+-- What the program answers and writes. This project's own.
+use Rattle.std.specs.Prelude.{ℕ, ◌≡◌, ◌⊎◌, IfSome, List, [], ◌∷◌, codes, Option}
+use Rattle.ff_top.specs.Texts.{usage_line, refusal_line, report}
+use Rattle.ff_top.specs.Sheet.{SpellsSheet, IsRefused}
+use Rattle.ff_top.specs.Transfer.{Tells, Got, GotFront, GotPart}
+use Rattle.ff_top.specs.declared.patterns.Pattern.{Pattern}
+use Rattle.ff_top.specs.declared.refusals.Refusal.{Refusal}
+use Rattle.ff_top.specs.declared.status.Status.{Status}
+use Rattle.ff_top.specs.declared.status.Status.TheVariants.{Done, Refused, ReadFault, WriteFault, NoMemory, Usage}
+
+-- the one list of words that isn't Usage
+abbrev pub solve_words : List (List ℕ)
+solve_words = codes "solve" ∷ []
+
+-- The status and the defined text for these words and this input, status by status.
+abbrev pub IsAnswer : List (List ℕ) → List ℕ → Status → List ℕ → Type 0
+IsAnswer words input Usage text = (words ≡ solve_words → ⊥) × (text ≡ usage_line)
+IsAnswer words input Refused text = (words ≡ solve_words) × (r : Refusal) × IsRefused input r × (text ≡ refusal_line r)
+IsAnswer words input Done text = (words ≡ solve_words) × (p : Pattern) × SpellsSheet input p × (text ≡ report p.points)
+IsAnswer words input status text = ⊥
+
+-- The words and an input have one answer.
+abbrev pub OneAnswer : Type 0
+OneAnswer = (words : List (List ℕ)) (input : List ℕ) (s t : Status) (x y : List ℕ) → IsAnswer words input s x → IsAnswer words input t y → (s ≡ t) × (x ≡ y)
+
+-- neither a fault nor want of memory
+abbrev pub IsSettled : Status → Type 0
+IsSettled ReadFault = ⊥
+IsSettled WriteFault = ⊥
+IsSettled NoMemory = ⊥
+IsSettled status = Unit {0}
+
+-- One run: its words, what the source told before it, what the sink told before and after, and its status.
+pub record IsRun (words : List (List ℕ)) (left before after : Option (List ℕ)) (status : Status) : Type 0 where
+  -- the bytes that the source gives: those that it tells, where it does
+  pub input : List ℕ
+  pub told : Tells left input
+  -- each status but a fault and want of memory is the defined one, and the defined text is written whole
+  pub settled : IsSettled status → (text : List ℕ) × IsAnswer words input status text × Got before text after
+  -- at a write fault there is a defined text, and a part of it is written
+  pub cut : status ≡ WriteFault → (s : Status) × (text : List ℕ) × IsAnswer words input s text × GotPart before text after
+  -- whatever the status, what is written is a front of the defined text
+  pub front : (s : Status) (text : List ℕ) → IsAnswer words input s text → GotFront before text after
+
+-- Where no fault was counted, the answer is the defined one, and its text is written, unless memory was refused.
+abbrev pub IsComplete : List (List ℕ) → Option (List ℕ) → Option (List ℕ) → Option (List ℕ) → Type 0 → Status → Type 0
+IsComplete words left before after no_fault status = IfSome left (λ input. (s : Status) (text : List ℕ) → IsAnswer words input s text → no_fault
+    → (status ≡ NoMemory) ⊎ ((status ≡ s) × Got before text after))

@@ -1,0 +1,14 @@
+//! The program's top call: words, a source and a sink to a status.
+#![tactic(auto)]
+
+pub mod limits;
+pub mod patterns;
+pub mod plain;
+pub mod reading;
+pub mod refusals;
+pub mod status;
+#[cfg(test)]
+mod tests;
+pub mod texts;
+pub mod top;
+pub mod transfer;

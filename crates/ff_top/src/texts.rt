@@ -1,0 +1,94 @@
+//! The texts that the program writes.
+ghost use Rattle.std.specs.Prelude.{◌≡◌, ◌++◌, pos, List, IfOk, OnOk, string_bytes};
+ghost use Rattle.std.specs.List.{flat_map};
+ghost use Rattle.ff_top.specs.Texts.{usage_line, refusal_line, counts_line, corner_text, face_line, parts_line, done_line, report};
+
+use crate::patterns::Pattern;
+use crate::refusals::Refusal;
+use ff_tables::{NoMemory, Text};
+use ff_whole::Pt;
+use std::alloc::{AllocError, Global};
+
+/// The line for words that aren't of the program's form.
+pub fn usage_text(alloc: Global) -> Result<Text, NoMemory>
+    ensures { IfOk result (λ text. text ≡ usage_line) }
+{
+    Ok(Text::of(String::from_str(alloc, "usage: flatfold solve\n")?))
+}
+
+/// The one line for a refused input.
+pub fn refusal_text(alloc: Global, refusal: &Refusal) -> Result<Text, NoMemory>
+    ensures { IfOk result (λ text. text ≡ refusal_line refusal.now) }
+{
+    let line = match refusal {
+        Refusal::TooLong => "refused 1 too long\n",
+        Refusal::NotJson => "refused 2 not json\n",
+        Refusal::NotYet => "refused 0 not yet\n",
+    };
+    Ok(Text::of(String::from_str(alloc, line)?))
+}
+
+fn push_counts(
+    text: &mut String,
+    faces: usize,
+    scale: i64,
+    pairs: usize,
+    constraints: usize,
+) -> Result<(), AllocError>
+    ensures { OnOk result (string_bytes text.new ≡ string_bytes text.old ++ counts_line faces scale pairs constraints) }
+{
+    write!(
+        text,
+        "faces {faces} scale {scale} pairs {pairs} constraints {constraints}\n"
+    )
+}
+
+fn push_corner(text: &mut String, p: Pt) -> Result<(), AllocError>
+    ensures { OnOk result (string_bytes text.new ≡ string_bytes text.old ++ corner_text p) }
+{
+    let x = p.x;
+    let y = p.y;
+    write!(text, " {x},{y}")
+}
+
+fn push_corners(text: &mut String, corners: &[Pt]) -> Result<(), AllocError>
+    ensures { OnOk result (string_bytes text.new ≡ string_bytes text.old ++ flat_map corner_text corners.now) }
+{
+    for p in corners {
+        push_corner(text, *p)?;
+    }
+    Ok(())
+}
+
+fn push_face(text: &mut String, face: usize, up: bool, corners: &[Pt]) -> Result<(), AllocError>
+    ensures { OnOk result (string_bytes text.new ≡ string_bytes text.old ++ face_line face up corners.now) }
+{
+    let side = if up { "up" } else { "down" };
+    write!(text, "face {face} {side}")?;
+    push_corners(text, corners)?;
+    text.push_str("\n")
+}
+
+fn push_parts(text: &mut String, count: usize) -> Result<(), AllocError>
+    ensures { OnOk result (string_bytes text.new ≡ string_bytes text.old ++ parts_line count) }
+{
+    write!(text, "parts {count}\n")
+}
+
+fn report_of(alloc: Global, corners: &[Pt]) -> Result<String, AllocError>
+    ensures { IfOk result (λ text. string_bytes text ≡ report corners.now) }
+{
+    let mut text = String::new(alloc);
+    push_counts(&mut text, 1, 1, 0, 0)?;
+    push_face(&mut text, 0, true, corners)?;
+    push_parts(&mut text, 0)?;
+    text.push_str("done\n")?;
+    Ok(text)
+}
+
+/// The report of a plain sheet: its one face with its own points.
+pub fn report_text(alloc: Global, sheet: &Pattern) -> Result<Text, NoMemory>
+    ensures { IfOk result (λ text. text ≡ report sheet.now.points) }
+{
+    Ok(Text::of(report_of(alloc, sheet.points.as_slice())?))
+}

@@ -1,0 +1,143 @@
+//! The top call: words, a source and a sink to a status.
+ghost use Rattle.std.specs.Prelude.{◌≡◌, ◌≤◌, ◌↔◌, ℕ, List, IfOk, OnOk, IsTrue, IsErrOf, length, map, string_bytes};
+ghost use Rattle.ff_outside.specs.Streams.{Rose};
+ghost use Rattle.ff_top.specs.Transfer.{Tells, IsReadOff};
+ghost use Rattle.ff_top.specs.Answer.{IsAnswer, IsRun, IsSettled, IsComplete, OneAnswer, solve_words};
+ghost use Rattle.ff_top.specs.Texts.{refusal_line};
+
+use crate::limits::MOST_BYTES;
+use crate::plain::read_sheet;
+use crate::refusals::{No, Refusal};
+use crate::status::Status;
+use crate::texts::{refusal_text, report_text, usage_text};
+use crate::transfer::{Input, ReadNo, read_all, write_all};
+use ff_outside::{Sink, Source};
+use ff_tables::{NoMemory, Text};
+use std::alloc::Global;
+
+// What is to be written, and the status then.
+#[derive(Drop)]
+struct Outcome {
+    status: Status,
+    text: Text,
+}
+
+fn is_word(word: &String, text: &str) -> bool
+    ensures { IsTrue result ↔ (string_bytes word.now ≡ text.now) }
+{
+    word.as_str() == text
+}
+
+fn is_solve(words: &[String]) -> bool
+    ensures { IsTrue result ↔ (map string_bytes words.now ≡ solve_words) }
+{
+    words.len() == 1 && is_word(&words[0], "solve")
+}
+
+fn refuse(alloc: Global, refusal: Refusal) -> Result<Outcome, NoMemory>
+    ensures { IfOk result (λ o. (o.status ≡ Status.Refused) × (o.text ≡ refusal_line refusal)) }
+{
+    Ok(Outcome {
+        status: Status::Refused,
+        text: refusal_text(alloc, &refusal)?,
+    })
+}
+
+// The answer to `solve` on these bytes.
+fn solve(alloc: Global, bytes: &[u8]) -> Result<Outcome, NoMemory>
+    requires { length bytes.now ≤ MOST_BYTES }
+    ensures { IfOk result (λ o. IsAnswer solve_words bytes.now o.status o.text) }
+{
+    match read_sheet(alloc, bytes) {
+        Ok(sheet) => Ok(Outcome {
+            status: Status::Done,
+            text: report_text(alloc, &sheet)?,
+        }),
+        Err(No::Refused(refusal)) => refuse(alloc, refusal),
+        Err(No::NoMemory) => Err(NoMemory),
+    }
+}
+
+// The answer to the words and what the source gives.
+fn prepare<S: Source>(alloc: Global, words: &[String], source: &mut S) -> Result<Outcome, ReadNo>
+    ensures answer { IfOk result (λ p. (input : List ℕ) × Tells (S.left source.old) input × IsAnswer (map string_bytes words.now) input p.status p.text) }
+    ensures unread { (map string_bytes words.now ≡ solve_words → ⊥) → source.new ≡ source.old }
+    ensures read_off { OnOk result (map string_bytes words.now ≡ solve_words → IsReadOff MOST_BYTES (S.left source.old) (S.left source.new)) }
+    ensures cause { IsErrOf result ReadNo.Failed → Rose (S.faults source.old) (S.faults source.new) (S.at_last source.new) }
+    ensures later { S.faults source.old ≤ S.faults source.new }
+{
+    if !is_solve(words) {
+        return Ok(Outcome {
+            status: Status::Usage,
+            text: usage_text(alloc)?,
+        });
+    }
+    match read_all(alloc, source, MOST_BYTES)? {
+        Input::Whole(bytes) => Ok(solve(alloc, &bytes)?),
+        Input::Beyond => Ok(refuse(alloc, Refusal::TooLong)?),
+    }
+}
+
+// The run itself, without what follows from its other clauses.
+fn answer<S: Source, K: Sink>(
+    alloc: Global,
+    words: &[String],
+    source: &mut S,
+    sink: &mut K,
+) -> Status
+    ensures run { IsRun (map string_bytes words.now) (S.left source.old) (K.held sink.old) (K.held sink.new) result }
+    ensures unread { (map string_bytes words.now ≡ solve_words → ⊥) → source.new ≡ source.old }
+    ensures read_off { IsSettled result → map string_bytes words.now ≡ solve_words → IsReadOff MOST_BYTES (S.left source.old) (S.left source.new) }
+    ensures read_fault { result ≡ Status.ReadFault → Rose (S.faults source.old) (S.faults source.new) (S.at_last source.new) }
+    ensures nothing_written { result ≡ Status.ReadFault → sink.new ≡ sink.old }
+    ensures write_fault { result ≡ Status.WriteFault → Rose (K.faults sink.old) (K.faults sink.new) (K.at_last sink.new) }
+    ensures source_later { S.faults source.old ≤ S.faults source.new }
+    ensures sink_later { K.faults sink.old ≤ K.faults sink.new }
+{
+    let outcome = match prepare(alloc, words, source) {
+        Ok(outcome) => outcome,
+        Err(ReadNo::Failed) => return Status::ReadFault,
+        Err(ReadNo::NoMemory) => return Status::NoMemory,
+    };
+    match write_all(sink, outcome.text.as_str().as_bytes()) {
+        Ok(()) => outcome.status,
+        Err(_) => Status::WriteFault,
+    }
+}
+
+/// Does what the words say with the source's bytes, and writes the defined text to the sink. `words` are those after the
+/// program's name. It waits for nobody and returns.
+///
+/// The words are read first, then the source is read to its end or to one byte past the limit, then the text is written.
+/// After a read fault and after want of memory in between nothing more is done.
+pub fn run_alone<S: Source, K: Sink>(
+    alloc: Global,
+    words: &[String],
+    source: &mut S,
+    sink: &mut K,
+) -> Status
+    // Each status but a fault and want of memory is the defined one; what is written is a front of the defined text.
+    ensures run { IsRun (map string_bytes words.now) (S.left source.old) (K.held sink.old) (K.held sink.new) result }
+    // Where no fault is counted, the defined text is written, or else memory was refused.
+    ensures complete { IsComplete (map string_bytes words.now) (S.left source.old) (K.held sink.old) (K.held sink.new)
+        ((Rose (S.faults source.old) (S.faults source.new) (S.at_last source.new) → ⊥) × (Rose (K.faults sink.old) (K.faults sink.new) (K.at_last sink.new) → ⊥)) result }
+
+    // The source is read only where the words ask for it, and then whole before anything is answered.
+    ensures unread { (map string_bytes words.now ≡ solve_words → ⊥) → source.new ≡ source.old }
+    ensures read_off { IsSettled result → map string_bytes words.now ≡ solve_words → IsReadOff MOST_BYTES (S.left source.old) (S.left source.new) }
+
+    // A fault comes only where one was counted.
+    ensures read_fault { result ≡ Status.ReadFault → Rose (S.faults source.old) (S.faults source.new) (S.at_last source.new) }
+    ensures nothing_written { result ≡ Status.ReadFault → sink.new ≡ sink.old }
+    ensures write_fault { result ≡ Status.WriteFault → Rose (K.faults sink.old) (K.faults sink.new) (K.at_last sink.new) }
+    ensures source_later { S.faults source.old ≤ S.faults source.new }
+    ensures sink_later { K.faults sink.old ≤ K.faults sink.new }
+{
+    answer(alloc, words, source, sink)
+}
+
+/// A law: the words and an input have one answer. With the clauses of `run_alone` each status comes exactly where its row
+/// of `IsAnswer` holds.
+pub fn one_answer()
+    ensures { OneAnswer }
+{}

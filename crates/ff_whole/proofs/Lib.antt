@@ -1,0 +1,5 @@
+pub mod Laws
+pub mod Ring
+pub mod Signs
+pub mod Bounds
+pub mod PointOrder
