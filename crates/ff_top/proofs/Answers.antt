@@ -2,7 +2,7 @@
 use Rattle.std.proofs.Common.{◌≡◌, ◌∙◌, ℕ, List, Option, None, Some, refl, ap, sym, subst, arith}
 use Rattle.serde_json.specs.Data.{Data}
 use Rattle.ff_top.specs.Answer.{IsAnswer}
-use Rattle.ff_top.specs.Sheet.{IsRefused, IsNoSheet, IsSheet, SpellsSheet}
+use Rattle.ff_top.specs.Sheet.{IsRefused, IsSheet, SpellsSheet}
 use Rattle.ff_top.specs.Spelling.{object_of}
 use Rattle.ff_top.specs.Texts.{refusal_line, report}
 use Rattle.ff_top.specs.declared.patterns.Pattern.{Pattern}

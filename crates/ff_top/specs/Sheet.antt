@@ -1,5 +1,5 @@
 -- Which plain sheet the bytes spell, and why they are refused.
-use Rattle.std.specs.Prelude.{ℕ, ◌≡◌, ◌<◌, ◌≤◌, List, length, Option, None, Some}
+use Rattle.std.specs.Prelude.{ℕ, ◌≡◌, ◌<◌, ◌≤◌, List, length, None, Some}
 use Rattle.serde_json.specs.Data.{Data}
 use Rattle.ff_top.specs.Spelling.{object_of, Spells}
 use Rattle.ff_top.specs.Plain.{IsPlain}

@@ -3,7 +3,7 @@ ghost use Rattle.std.specs.Prelude.{◌≡◌, ◌<◌, ◌≤◌, ◌↔◌, le
 ghost use Rattle.std.specs.List.{All};
 ghost use Rattle.serde_json.specs.View.{view};
 ghost use Rattle.ff_whole.specs.Points.{IsNear};
-ghost use Rattle.ff_whole.specs.Convex.{next as next_of, AreApart};
+ghost use Rattle.ff_whole.specs.Convex.{AreApart};
 ghost use Rattle.ff_top.specs.Plain.{AreRing, AreBorder, IsPlain};
 ghost use Rattle.ff_top.specs.Sheet.{IsSheet, IsNoSheet, IsNotYet, SpellsSheet, IsReason};
 
@@ -12,7 +12,7 @@ use crate::patterns::{EdgeEnds, Mark, Pattern};
 use crate::reading::{list_at, optional_list_at, read_object};
 use crate::refusals::{No, Refusal};
 use ff_tables::{Items, NoMemory};
-use ff_whole::{Pt, is_convex};
+use ff_whole::{Pt, is_convex, next_place};
 use serde_json::Value;
 use std::alloc::Global;
 use std::collections::BTreeSet;
@@ -36,14 +36,6 @@ fn are_apart(alloc: Global, points: &[Pt]) -> Result<bool, NoMemory>
     Ok(true)
 }
 
-// The vertex after `i` of `n` in a ring.
-fn next(n: usize, i: usize) -> usize
-    requires { i < n }
-    ensures { result ≡ next_of n i }
-{
-    if i + 1 < n { i + 1 } else { 0 }
-}
-
 // Whether the edges join each of `n` vertices to the next.
 fn are_ring(n: usize, edges: &[EdgeEnds]) -> bool
     requires { n ≤ MOST_VERTICES }
@@ -54,7 +46,7 @@ fn are_ring(n: usize, edges: &[EdgeEnds]) -> bool
     }
     for i in 0..n {
         let ends = edges[i];
-        if ends.a as usize != i || ends.b as usize != next(n, i) {
+        if ends.a as usize != i || ends.b as usize != next_place(n, i) {
             return false;
         }
     }

@@ -3,3 +3,8 @@ pub mod Ring
 pub mod Signs
 pub mod Bounds
 pub mod PointOrder
+pub mod Directions
+pub mod Ranks
+pub mod ClosedLists
+pub mod Turning
+pub mod ConvexRings

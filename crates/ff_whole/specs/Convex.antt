@@ -19,19 +19,6 @@ pub record AreApart (points : List Pt) : Type 0 where
 abbrev pub left_of : List Pt → ℕ → Pt → ℤ
 left_of points i p = turn (point_at points i) (point_at points (next (length points) i)) p
 
--- each point is on or left of the i-th directed edge
-pub record KeepsLeft (points : List Pt) (i : ℕ) : Type 0 where
-  pub left : (j : ℕ) → j < length points → pos 0 ≤ℤ left_of points i (point_at points j)
-
--- not all are on its line
-pub record IsWide (points : List Pt) (i : ℕ) : Type 0 where
-  pub wide : (j : ℕ) × (j < length points) × (pos 0 <ℤ left_of points i (point_at points j))
-
--- both
-pub record IsSide (points : List Pt) (i : ℕ) : Type 0 where
-  pub keeps : KeepsLeft points i
-  pub wide : IsWide points i
-
 -- The points are the corners of a convex ring in counterclockwise order. Corners of 180 degrees are allowed.
 pub record IsConvex (points : List Pt) : Type 0 where
   -- each point is on or left of each directed edge

@@ -1,3 +1,4 @@
 pub mod Sizes
 pub mod Points
 pub mod Convex
+pub mod Turning

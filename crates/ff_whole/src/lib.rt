@@ -5,6 +5,6 @@ mod convex;
 mod points;
 mod sizes;
 
-pub use convex::is_convex;
+pub use convex::{is_convex, next_place};
 pub use points::{Pt, orient};
 pub use sizes::POINT_SIZE;

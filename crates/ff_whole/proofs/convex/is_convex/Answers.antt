@@ -1,16 +1,11 @@
-use Rattle.std.proofs.Common.{rules, IsTrue, refl, arith}
-use borrow.Author.Count.{below_more}
-use Rattle.ff_whole.specs.Convex.{IsSide}
+use Rattle.ff_whole.proofs.ConvexRings.{convex_from_corners, corners_from_convex}
 use Rattle.ff_whole.proofs.convex.is_convex.Goals as goal
 
-pub loop-i-preserved : goal.loop-i-preserved
-loop-i-preserved c = below_more _ _ c.loop-i.invariant (c.is_side.ensures.0 (search rules))
-
 pub returns : goal.returns
-returns c = (
-  λ _. record {
-    left = λ i j h. (c.loop-i.invariant i (omega arith)).keeps.left j;
-    wide = λ i h. (c.loop-i.invariant i (omega arith)).wide.wide;
-  },
-  λ _. refl,
-)
+returns c =
+    let points = c.args.points.now in
+    let r = c.requires in
+    let first = c.first_place.ensures in (
+      λ h. convex_from_corners points r.near r.apart _ first.within (c.are_corners.ensures.0 h),
+      λ h. c.are_corners.ensures.1 (corners_from_convex points r.near r.apart _ first.within first.first h),
+    )
