@@ -1,5 +1,5 @@
 //! A source and a sink in memory that fail at chosen calls.
-ghost use Rattle.std.specs.Prelude.{◌≡◌, ◌<◌, ◌≤◌, ◌++◌, ◌-◌, ◌^◌, [], take, length, Some, IfSome, IfOk, OnErr};
+ghost use Rattle.std.specs.Prelude.{◌≡◌, ◌<◌, ◌≤◌, ◌++◌, ◌-◌, ◌^◌, [], take, length, Some, IfOk, OnErr};
 ghost use Rattle.ff_outside.specs.Streams.{Rose, Gives};
 ghost use Rattle.ff_outside.specs.Memory.{SourceState, SinkState, fails_next, given, taken, after_take, after_put};
 ghost use Rattle.std.specs.Result.{result_ok};
@@ -136,7 +136,14 @@ impl MemSink {
         failing: Vec<u64>,
     ) -> Result<MemSink, NoMemory>
         requires { 1 ≤ most }
-        ensures { IfOk result (λ s. s ≡ record { held = []; room = room; most = most; failing = failing.items; calls = 0; faults = 0 }) }
+        ensures { IfOk result (λ s. s ≡ record {
+          held = [];
+          room = room;
+          most = most;
+          failing = failing.items;
+          calls = 0;
+          faults = 0;
+        }) }
     {
         Ok(MemSink {
             bytes: Vec::with_capacity(alloc, room)?,

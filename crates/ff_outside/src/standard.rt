@@ -6,7 +6,8 @@ use crate::{Sink, SinkFailed, Source, SourceFailed};
 use std::io::{Read, Write};
 use std::marker::Model;
 
-/// A reader as a source, which contracts see as its count of faults. It tells no bytes: what the reader gives is trusted.
+/// A reader as a source, which contracts see as its count of faults. It tells no bytes: what the reader gives is
+/// trusted.
 #[derive(Drop)]
 pub struct StdSource<R> {
     reader: R,
@@ -54,8 +55,8 @@ impl<R: Read> Source for StdSource<R> {
     }
 }
 
-/// A writer as a sink, which contracts see as its count of faults. It tells no bytes: what the writer does with them is
-/// trusted.
+/// A writer as a sink, which contracts see as its count of faults. It tells no bytes: what the writer does with them
+/// is trusted.
 #[derive(Drop)]
 pub struct StdSink<W> {
     writer: W,

@@ -1,5 +1,6 @@
 //! What a source and a sink are.
-ghost use Rattle.std.specs.Prelude.{◌≡◌, ◌<◌, ◌≤◌, ℕ, List, ◌++◌, length, take, Option, Some, IfSome, IfOk, OnErr};
+ghost use Rattle.std.specs.Prelude.{◌≡◌, ◌<◌, ◌≤◌, ℕ, List, ◌++◌, length, take};
+ghost use Rattle.std.specs.Prelude.{Option, Some, IfSome, IfOk, OnErr};
 ghost use Rattle.ff_outside.specs.Streams.{Rose, Gives};
 
 use thiserror::Error;

@@ -1,5 +1,6 @@
 pub mod Statuses
 pub mod Patterns
+pub mod Refusals
 pub mod Spelling
 pub mod Plain
 pub mod Sheet

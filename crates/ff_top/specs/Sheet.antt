@@ -36,15 +36,3 @@ IsRefused bytes NotYet = (length bytes ≤ MOST_BYTES) × (d : Data) × (object_
 abbrev pub IsReason : List ℕ → No → Type 0
 IsReason bytes (no.Refused r) = IsRefused bytes r
 IsReason bytes no.NoMemory = Unit {0}
-
--- refused as not yet exactly where this holds
-abbrev pub IsNotYet : Type 0 → No → Type 0
-IsNotYet where_ (no.Refused NotYet) = where_
-IsNotYet where_ (no.Refused r) = ⊥
-IsNotYet where_ no.NoMemory = Unit {0}
-
--- refused as no JSON object exactly where this holds
-abbrev pub IsNotJson : Type 0 → No → Type 0
-IsNotJson where_ (no.Refused NotJson) = where_
-IsNotJson where_ (no.Refused r) = ⊥
-IsNotJson where_ no.NoMemory = Unit {0}

@@ -22,8 +22,8 @@ pub struct EdgeEnds {
     pub b: u32,
 }
 
-/// A crease pattern within the limits, whatever its edges do to one another. Vertices and edges are numbered from 0 in
-/// the order of the input. `marks` is None where the input has no assignment.
+/// A crease pattern within the limits, whatever its edges do to one another. Vertices and edges are numbered from 0
+/// in the order of the input. `marks` is None where the input has no assignment.
 #[derive(Drop)]
 pub struct Pattern {
     pub points: Items<Pt>,

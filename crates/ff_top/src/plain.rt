@@ -5,7 +5,8 @@ ghost use Rattle.serde_json.specs.View.{view};
 ghost use Rattle.ff_whole.specs.Points.{IsNear};
 ghost use Rattle.ff_whole.specs.Convex.{AreApart};
 ghost use Rattle.ff_top.specs.Plain.{AreRing, AreBorder, IsPlain};
-ghost use Rattle.ff_top.specs.Sheet.{IsSheet, IsNoSheet, IsNotYet, SpellsSheet, IsReason};
+ghost use Rattle.ff_top.specs.Refusals.{IsNotYet};
+ghost use Rattle.ff_top.specs.Sheet.{IsSheet, IsNoSheet, SpellsSheet, IsReason};
 
 use crate::limits::{MOST_BYTES, MOST_VERTICES};
 use crate::patterns::{EdgeEnds, Mark, Pattern};

@@ -3,8 +3,10 @@ ghost use Rattle.std.specs.Prelude.{◌≡◌, Option, None, Some, option_map, o
 ghost use Rattle.serde_json.specs.Data.{Data};
 ghost use Rattle.serde_json.specs.View.{view, items_view};
 ghost use Rattle.serde_json.specs.Find.{as_array, get as member};
-ghost use Rattle.ff_top.specs.Spelling.{object_of, point_of, ends_of, mark_of, two_of as two_items, vertex_of as vertex, all_of as all_spelled, list_of as list_spelled, list_at as list_under, optional_list_of};
-ghost use Rattle.ff_top.specs.Sheet.{IsNotYet, IsNotJson};
+ghost use Rattle.ff_top.specs.Spelling.{object_of, point_of, ends_of, mark_of, two_of as two_items};
+ghost use Rattle.ff_top.specs.Spelling.{vertex_of as vertex, all_of as all_spelled, list_of as list_spelled};
+ghost use Rattle.ff_top.specs.Spelling.{list_at as list_under, optional_list_of};
+ghost use Rattle.ff_top.specs.Refusals.{IsReadAs, IsNotJson};
 
 use crate::patterns::{EdgeEnds, Mark};
 use crate::refusals::{No, Refusal};
@@ -27,7 +29,8 @@ pub trait FromJson: Drop {
 
 // The two items of an array of two.
 fn two_of(value: &Value) -> Option<(&Value, &Value)>
-    ensures { option_map (λ p. (view p.0.now, view p.1.now)) result ≡ option_and_then two_items (as_array (view value.now)) }
+    ensures { option_map (λ p. (view p.0.now, view p.1.now)) result
+        ≡ option_and_then two_items (as_array (view value.now)) }
 {
     let list = value.as_array()?;
     if list.len() == 2 {
@@ -85,7 +88,7 @@ impl FromJson for Mark {
 
 // The items of an array, refused where one isn't of its form.
 fn all_of<T: FromJson>(alloc: Global, list: &[Value]) -> Result<Items<T>, No>
-    ensures { MatchResult result (λ items. all_spelled T.spelled (items_view list.now) ≡ Some items) (IsNotYet (all_spelled T.spelled (items_view list.now) ≡ None)) }
+    ensures { IsReadAs (all_spelled T.spelled (items_view list.now)) result }
 {
     let mut items = Vec::new(alloc);
     for value in list {
@@ -103,7 +106,7 @@ fn all_of<T: FromJson>(alloc: Global, list: &[Value]) -> Result<Items<T>, No>
 
 // The items of a value that is to be an array.
 fn list_of<T: FromJson>(alloc: Global, value: &Value) -> Result<Items<T>, No>
-    ensures { MatchResult result (λ items. list_spelled T.spelled (view value.now) ≡ Some items) (IsNotYet (list_spelled T.spelled (view value.now) ≡ None)) }
+    ensures { IsReadAs (list_spelled T.spelled (view value.now)) result }
 {
     match value.as_array() {
         Some(list) => all_of(alloc, list.as_slice()),
@@ -113,7 +116,7 @@ fn list_of<T: FromJson>(alloc: Global, value: &Value) -> Result<Items<T>, No>
 
 /// The list under a key, refused where it isn't there or not of its form.
 pub fn list_at<T: FromJson>(alloc: Global, object: &Value, key: &str) -> Result<Items<T>, No>
-    ensures { MatchResult result (λ items. list_under T.spelled key.now (view object.now) ≡ Some items) (IsNotYet (list_under T.spelled key.now (view object.now) ≡ None)) }
+    ensures { IsReadAs (list_under T.spelled key.now (view object.now)) result }
 {
     match object.get(key) {
         Some(value) => list_of(alloc, value),
@@ -127,7 +130,7 @@ pub fn optional_list_at<T: FromJson>(
     object: &Value,
     key: &str,
 ) -> Result<Option<Items<T>>, No>
-    ensures { MatchResult result (λ items. optional_list_of T.spelled (member key.now (view object.now)) ≡ Some items) (IsNotYet (optional_list_of T.spelled (member key.now (view object.now)) ≡ None)) }
+    ensures { IsReadAs (optional_list_of T.spelled (member key.now (view object.now))) result }
 {
     match object.get(key) {
         Some(value) => Ok(Some(list_of(alloc, value)?)),

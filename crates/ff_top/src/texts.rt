@@ -1,7 +1,8 @@
 //! The texts that the program writes.
 ghost use Rattle.std.specs.Prelude.{◌≡◌, ◌++◌, pos, List, IfOk, OnOk, string_bytes};
 ghost use Rattle.std.specs.List.{flat_map};
-ghost use Rattle.ff_top.specs.Texts.{usage_line, refusal_line, counts_line, corner_text, face_line, parts_line, done_line, report};
+ghost use Rattle.ff_top.specs.Texts.{usage_line, refusal_line, report};
+ghost use Rattle.ff_top.specs.Texts.{counts_line, corner_text, face_line, parts_line, done_line};
 
 use crate::patterns::Pattern;
 use crate::refusals::Refusal;

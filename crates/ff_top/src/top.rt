@@ -1,5 +1,6 @@
 //! The top call: words, a source and a sink to a status.
-ghost use Rattle.std.specs.Prelude.{◌≡◌, ◌≤◌, ◌↔◌, ℕ, List, IfOk, OnOk, IsTrue, IsErrOf, length, map, string_bytes};
+ghost use Rattle.std.specs.Prelude.{◌≡◌, ◌≤◌, ◌↔◌, ℕ, List, length, map, string_bytes};
+ghost use Rattle.std.specs.Prelude.{IfOk, OnOk, IsTrue, IsErrOf};
 ghost use Rattle.ff_outside.specs.Streams.{Rose};
 ghost use Rattle.ff_top.specs.Transfer.{Tells, IsReadOff};
 ghost use Rattle.ff_top.specs.Answer.{IsAnswer, IsRun, IsSettled, IsComplete, OneAnswer, solve_words};
@@ -60,9 +61,11 @@ fn solve(alloc: Global, bytes: &[u8]) -> Result<Outcome, NoMemory>
 
 // The answer to the words and what the source gives.
 fn prepare<S: Source>(alloc: Global, words: &[String], source: &mut S) -> Result<Outcome, ReadNo>
-    ensures answer { IfOk result (λ p. (input : List ℕ) × Tells (S.left source.old) input × IsAnswer (map string_bytes words.now) input p.status p.text) }
+    ensures answer { IfOk result (λ o. (input : List ℕ) × Tells (S.left source.old) input
+        × IsAnswer (map string_bytes words.now) input o.status o.text) }
     ensures unread { (map string_bytes words.now ≡ solve_words → ⊥) → source.new ≡ source.old }
-    ensures read_off { OnOk result (map string_bytes words.now ≡ solve_words → IsReadOff MOST_BYTES (S.left source.old) (S.left source.new)) }
+    ensures read_off { OnOk result (map string_bytes words.now ≡ solve_words
+        → IsReadOff MOST_BYTES (S.left source.old) (S.left source.new)) }
     ensures cause { IsErrOf result ReadNo.Failed → Rose (S.faults source.old) (S.faults source.new) (S.at_last source.new) }
     ensures later { S.faults source.old ≤ S.faults source.new }
 {
@@ -87,7 +90,8 @@ fn answer<S: Source, K: Sink>(
 ) -> Status
     ensures run { IsRun (map string_bytes words.now) (S.left source.old) (K.held sink.old) (K.held sink.new) result }
     ensures unread { (map string_bytes words.now ≡ solve_words → ⊥) → source.new ≡ source.old }
-    ensures read_off { IsSettled result → map string_bytes words.now ≡ solve_words → IsReadOff MOST_BYTES (S.left source.old) (S.left source.new) }
+    ensures read_off { IsSettled result → map string_bytes words.now ≡ solve_words
+        → IsReadOff MOST_BYTES (S.left source.old) (S.left source.new) }
     ensures read_fault { result ≡ Status.ReadFault → Rose (S.faults source.old) (S.faults source.new) (S.at_last source.new) }
     ensures nothing_written { result ≡ Status.ReadFault → sink.new ≡ sink.old }
     ensures write_fault { result ≡ Status.WriteFault → Rose (K.faults sink.old) (K.faults sink.new) (K.at_last sink.new) }
@@ -105,26 +109,29 @@ fn answer<S: Source, K: Sink>(
     }
 }
 
-/// Does what the words say with the source's bytes, and writes the defined text to the sink. `words` are those after the
-/// program's name. It waits for nobody and returns.
+/// Does what the words say with the source's bytes, and writes the defined text to the sink. `words` are those after
+/// the program's name. It waits for nobody and returns.
 ///
-/// The words are read first, then the source is read to its end or to one byte past the limit, then the text is written.
-/// After a read fault and after want of memory in between nothing more is done.
+/// The words are read first, then the source is read to its end or to one byte past the limit, then the text is
+/// written. A fault ends the run, and so does want of memory.
 pub fn run_alone<S: Source, K: Sink>(
     alloc: Global,
     words: &[String],
     source: &mut S,
     sink: &mut K,
 ) -> Status
-    // Each status but a fault and want of memory is the defined one; what is written is a front of the defined text.
+    // Each status but a fault and want of memory is the defined one. What is written is a front of the defined text.
     ensures run { IsRun (map string_bytes words.now) (S.left source.old) (K.held sink.old) (K.held sink.new) result }
     // Where no fault is counted, the defined text is written, or else memory was refused.
-    ensures complete { IsComplete (map string_bytes words.now) (S.left source.old) (K.held sink.old) (K.held sink.new)
-        ((Rose (S.faults source.old) (S.faults source.new) (S.at_last source.new) → ⊥) × (Rose (K.faults sink.old) (K.faults sink.new) (K.at_last sink.new) → ⊥)) result }
+    ensures complete { let no_read_fault = Rose (S.faults source.old) (S.faults source.new) (S.at_last source.new) → ⊥ in
+        let no_write_fault = Rose (K.faults sink.old) (K.faults sink.new) (K.at_last sink.new) → ⊥ in
+        IsComplete (map string_bytes words.now) (S.left source.old) (K.held sink.old) (K.held sink.new)
+        (no_read_fault × no_write_fault) result }
 
     // The source is read only where the words ask for it, and then whole before anything is answered.
     ensures unread { (map string_bytes words.now ≡ solve_words → ⊥) → source.new ≡ source.old }
-    ensures read_off { IsSettled result → map string_bytes words.now ≡ solve_words → IsReadOff MOST_BYTES (S.left source.old) (S.left source.new) }
+    ensures read_off { IsSettled result → map string_bytes words.now ≡ solve_words
+        → IsReadOff MOST_BYTES (S.left source.old) (S.left source.new) }
 
     // A fault comes only where one was counted.
     ensures read_fault { result ≡ Status.ReadFault → Rose (S.faults source.old) (S.faults source.new) (S.at_last source.new) }
@@ -136,8 +143,8 @@ pub fn run_alone<S: Source, K: Sink>(
     answer(alloc, words, source, sink)
 }
 
-/// A law: the words and an input have one answer. With the clauses of `run_alone` each status comes exactly where its row
-/// of `IsAnswer` holds.
+/// A law: the words and an input have one answer. So each status of `run_alone` comes exactly where its row of
+/// `IsAnswer` holds.
 pub fn one_answer()
     ensures { OneAnswer }
 {}
