@@ -1,6 +1,6 @@
 //! A source and a sink in memory that fail at chosen calls.
 ghost use Rattle.std.specs.Prelude.{◌≡◌, ◌<◌, ◌≤◌, ◌++◌, ◌-◌, ◌^◌, [], take, length, Some, IfOk, OnErr};
-ghost use Rattle.ff_outside.specs.Streams.{Rose, Gives};
+ghost use Rattle.ff_outside.specs.Streams.{Rose, Gives, late-128};
 ghost use Rattle.ff_outside.specs.Memory.{SourceState, SinkState, fails_next, given, taken, after_take, after_put};
 ghost use Rattle.std.specs.Result.{result_ok};
 
@@ -69,6 +69,8 @@ impl Source for MemSource {
     ghost left = { λ s. Some s.left };
 
     ghost faults = { λ s. s.faults };
+
+    ghost late = { λ s h. absurd h };
 
     fn take(&mut self, buf: &mut [u8]) -> Result<usize, SourceFailed>
         requires { 0 < length buf.old }
@@ -169,6 +171,8 @@ impl Sink for MemSink {
     ghost faults = { λ s. s.faults };
 
     ghost at_last = { λ s. s.faults ≡ 2 ^ 128 - 1 };
+
+    ghost late = { λ s. late-128 s.faults };
 
     fn put(&mut self, piece: &[u8]) -> Result<usize, SinkFailed>
         requires { 0 < length piece.now }

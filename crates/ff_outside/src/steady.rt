@@ -5,7 +5,8 @@ ghost use Rattle.ff_outside.specs.Streams.{Gives};
 use crate::{Sink, SinkFailed, Source, SourceFailed};
 use std::marker::Model;
 
-/// Bytes in memory, which contracts see as those that are left. A call gives as many as the buffer has room for.
+/// Bytes in memory, which contracts see as those that are left. A call gives as many as the buffer has room for
+/// or are left.
 #[derive(Drop)]
 pub struct SteadySource {
     bytes: Vec<u8>,
@@ -36,6 +37,8 @@ impl Source for SteadySource {
 
     ghost faults = { λ _. 0 };
 
+    ghost late = { λ s h. absurd h };
+
     fn take(&mut self, buf: &mut [u8]) -> Result<usize, SourceFailed>
         requires { 0 < length buf.old }
         ensures whole { result ≡ Ok (min (length self.old) (length buf.old)) }
@@ -65,6 +68,8 @@ impl Sink for SteadySink {
     ghost held = { λ _. None };
 
     ghost faults = { λ _. 0 };
+
+    ghost late = { λ s h. absurd h };
 
     fn put(&mut self, piece: &[u8]) -> Result<usize, SinkFailed>
         requires { 0 < length piece.now }

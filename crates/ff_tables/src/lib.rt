@@ -8,3 +8,6 @@ mod texts;
 pub use lists::Items;
 pub use memory::NoMemory;
 pub use texts::Text;
+
+#[cfg(test)]
+mod tests;

@@ -4,3 +4,4 @@ pub mod Pieces
 pub mod Objects
 pub mod Answers
 pub mod Runs
+pub mod Totality

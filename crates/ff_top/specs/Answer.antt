@@ -23,6 +23,16 @@ IsAnswer words input status text = ⊥
 abbrev pub OneAnswer : Type 0
 OneAnswer = (words : List (List ℕ)) (input : List ℕ) (s t : Status) (x y : List ℕ) → IsAnswer words input s x → IsAnswer words input t y → (s ≡ t) × (x ≡ y)
 
+-- No words and input are without an answer. It is said by what can't be, since no definition decides which answer it is.
+abbrev pub SomeAnswer : Type 0
+SomeAnswer = (words : List (List ℕ)) (input : List ℕ) → ((s : Status) (text : List ℕ) → IsAnswer words input s text → ⊥) → ⊥
+
+-- an answer was prepared: neither a read fault nor want of memory
+abbrev pub IsAnswered : Status → Type 0
+IsAnswered ReadFault = ⊥
+IsAnswered NoMemory = ⊥
+IsAnswered status = Unit {0}
+
 -- neither a fault nor want of memory
 abbrev pub IsSettled : Status → Type 0
 IsSettled ReadFault = ⊥

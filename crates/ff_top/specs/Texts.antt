@@ -3,6 +3,8 @@ use Rattle.std.specs.Prelude.{ℕ, ℤ, pos, Bool, true, if◌then◌else◌, Li
 use Rattle.std.specs.Fmt.{decimal, signed_decimal}
 use Rattle.std.specs.List.{flat_map}
 use Rattle.ff_whole.specs.declared.points.Pt.{Pt}
+use Rattle.ff_top.specs.declared.texts.Last.{Last}
+use Rattle.ff_top.specs.declared.texts.Last.TheVariants.{Done, Impossible, Unfinished}
 use Rattle.ff_top.specs.declared.refusals.Refusal.{Refusal}
 use Rattle.ff_top.specs.declared.refusals.Refusal.TheVariants.{TooLong, NotJson, NotYet}
 
@@ -33,9 +35,11 @@ face_line face up corners = codes "face " ++ decimal face ++ (if up then codes "
 abbrev pub parts_line : ℕ → List ℕ
 parts_line count = codes "parts " ++ decimal count ++ codes "\n"
 
-abbrev pub done_line : List ℕ
-done_line = codes "done\n"
+abbrev pub last_line : Last → List ℕ
+last_line Done = codes "done\n"
+last_line Impossible = codes "impossible\n"
+last_line Unfinished = codes "unfinished\n"
 
 -- The report of a plain sheet with these corners: one face, scale 1, the points themselves.
 abbrev pub report : List Pt → List ℕ
-report corners = counts_line 1 (pos 1) 0 0 ++ face_line 0 true corners ++ parts_line 0 ++ done_line
+report corners = counts_line 1 (pos 1) 0 0 ++ face_line 0 true corners ++ parts_line 0 ++ last_line Done

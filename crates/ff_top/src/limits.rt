@@ -1,6 +1,6 @@
 //! The limits of an input. They are this project's own.
 
-/// The most bytes that `solve` reads.
+/// The most bytes of an input of `solve`. One byte more is read, to see that it is longer.
 pub const MOST_BYTES: usize = 1 << 24;
 
 /// The most vertices of a crease pattern.

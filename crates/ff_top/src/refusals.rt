@@ -7,7 +7,7 @@ use thiserror::Error;
 pub enum Refusal {
     /// More bytes come than the limit.
     TooLong,
-    /// The bytes aren't a JSON object.
+    /// The bytes aren't a JSON object by serde_json's reading, which ends at a nesting of 127.
     NotJson,
     /// The program doesn't solve this pattern yet.
     NotYet,

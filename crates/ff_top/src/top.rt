@@ -3,7 +3,7 @@ ghost use Rattle.std.specs.Prelude.{◌≡◌, ◌≤◌, ◌↔◌, ℕ, List, 
 ghost use Rattle.std.specs.Prelude.{IfOk, OnOk, IsTrue, IsErrOf};
 ghost use Rattle.ff_outside.specs.Streams.{Rose};
 ghost use Rattle.ff_top.specs.Transfer.{Tells, IsReadOff};
-ghost use Rattle.ff_top.specs.Answer.{IsAnswer, IsRun, IsSettled, IsComplete, OneAnswer, solve_words};
+ghost use Rattle.ff_top.specs.Answer.{IsAnswer, IsRun, IsAnswered, IsComplete, OneAnswer, SomeAnswer, solve_words};
 ghost use Rattle.ff_top.specs.Texts.{refusal_line};
 
 use crate::limits::MOST_BYTES;
@@ -90,7 +90,9 @@ fn answer<S: Source, K: Sink>(
 ) -> Status
     ensures run { IsRun (map string_bytes words.now) (S.left source.old) (K.held sink.old) (K.held sink.new) result }
     ensures unread { (map string_bytes words.now ≡ solve_words → ⊥) → source.new ≡ source.old }
-    ensures read_off { IsSettled result → map string_bytes words.now ≡ solve_words
+    ensures read_off { IsAnswered result → map string_bytes words.now ≡ solve_words
+        → IsReadOff MOST_BYTES (S.left source.old) (S.left source.new) }
+    ensures read_first { (sink.new ≡ sink.old → ⊥) → map string_bytes words.now ≡ solve_words
         → IsReadOff MOST_BYTES (S.left source.old) (S.left source.new) }
     ensures read_fault { result ≡ Status.ReadFault → Rose (S.faults source.old) (S.faults source.new) (S.at_last source.new) }
     ensures nothing_written { result ≡ Status.ReadFault → sink.new ≡ sink.old }
@@ -113,7 +115,8 @@ fn answer<S: Source, K: Sink>(
 /// the program's name. It waits for nobody and returns.
 ///
 /// The words are read first, then the source is read to its end or to one byte past the limit, then the text is
-/// written. A fault ends the run, and so does want of memory.
+/// written. A fault ends the run, and so does want of memory: what has been read stays read then, and what has been
+/// written stays written.
 pub fn run_alone<S: Source, K: Sink>(
     alloc: Global,
     words: &[String],
@@ -128,9 +131,11 @@ pub fn run_alone<S: Source, K: Sink>(
         IsComplete (map string_bytes words.now) (S.left source.old) (K.held sink.old) (K.held sink.new)
         (no_read_fault × no_write_fault) result }
 
-    // The source is read only where the words ask for it, and then whole before anything is answered.
+    // The source is read only where the words ask for it, and then whole before anything is answered or written.
     ensures unread { (map string_bytes words.now ≡ solve_words → ⊥) → source.new ≡ source.old }
-    ensures read_off { IsSettled result → map string_bytes words.now ≡ solve_words
+    ensures read_off { IsAnswered result → map string_bytes words.now ≡ solve_words
+        → IsReadOff MOST_BYTES (S.left source.old) (S.left source.new) }
+    ensures read_first { (sink.new ≡ sink.old → ⊥) → map string_bytes words.now ≡ solve_words
         → IsReadOff MOST_BYTES (S.left source.old) (S.left source.new) }
 
     // A fault comes only where one was counted.
@@ -147,4 +152,9 @@ pub fn run_alone<S: Source, K: Sink>(
 /// `IsAnswer` holds.
 pub fn one_answer()
     ensures { OneAnswer }
+{}
+
+/// A law: no words and input are without an answer.
+pub fn some_answer()
+    ensures { SomeAnswer }
 {}

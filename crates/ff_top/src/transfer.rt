@@ -39,7 +39,8 @@ impl From<NoMemory> for ReadNo {
     }
 }
 
-/// Reads a source to its end, or to one byte past the limit. Each turn takes at least one byte.
+/// Reads a source to its end, or to one byte past the limit. Each turn takes at least one byte. After an error what has
+/// been read stays read.
 pub fn read_all<S: Source>(alloc: Global, source: &mut S, limit: usize) -> Result<Input, ReadNo>
     requires { limit < 2 ^ 32 }
     ensures input { IfOk result (λ read. (input : List ℕ) × Tells (S.left source.old) input × IsInput limit input read) }

@@ -85,7 +85,7 @@ module _ (points : List Pt) (near : All IsNear points) (apart : AreApart points)
       let h = walk-below (length points) s (length points - 1) lt in
       let more = (all.corner i h).sharp (walk-last (length points) s lt) in
       let left = passing_left (two_points i h _ more) all in
-      record { left = left; wide = passing_wide i h more left }
+      record { some = omega (arith, lt); left = left; wide = passing_wide i h more left }
 
   -- ---- a convex ring passes, from its least point on
 

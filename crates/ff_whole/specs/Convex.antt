@@ -21,6 +21,7 @@ left_of points i p = turn (point_at points i) (point_at points (next (length poi
 
 -- The points are the corners of a convex ring in counterclockwise order. Corners of 180 degrees are allowed.
 pub record IsConvex (points : List Pt) : Type 0 where
+  pub some : 0 < length points
   -- each point is on or left of each directed edge
   pub left : (i j : ℕ) → i < length points → j < length points → pos 0 ≤ℤ left_of points i (point_at points j)
   -- not all are on one edge's line

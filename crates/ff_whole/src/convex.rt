@@ -91,15 +91,15 @@ fn are_corners(points: &[Pt], first: usize) -> bool
 
 /// Whether the points are the corners of a convex ring in counterclockwise order. Takes linear time.
 ///
-/// Such a ring turns right nowhere, turns left at its first point in the order of x and then of y,
-/// and comes nowhere else to a point that stands before both its neighbours in that order.
+/// Such a ring turns right nowhere, turns left at its first point in the order of x and then of y, and comes nowhere
+/// else to a point that stands before both its neighbours in that order.
 pub fn is_convex(points: &[Pt]) -> bool
     requires near { All IsNear points.now }
     requires apart { AreApart points.now }
     ensures { IsTrue result ↔ IsConvex points.now }
 {
     if points.is_empty() {
-        return true;
+        return false;
     }
     are_corners(points, first_place(points))
 }

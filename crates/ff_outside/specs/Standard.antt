@@ -1,0 +1,6 @@
+-- What contracts see of an adapter: its count of faults, and the bytes of its reader or writer where these are known.
+use Rattle.std.specs.Prelude.{ℕ, List, Option}
+
+pub record Counted : Type 0 where
+  pub faults : ℕ
+  pub bytes : Option (List ℕ)
