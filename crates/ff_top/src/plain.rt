@@ -109,7 +109,7 @@ pub fn sheet_of(alloc: Global, object: &Value) -> Result<Pattern, No>
     })
 }
 
-/// The plain sheet that the bytes spell.
+/// The plain sheet that the bytes spell. Bytes that are no JSON object and objects that spell no plain sheet are refused.
 pub fn read_sheet(alloc: Global, bytes: &[u8]) -> Result<Pattern, No>
     requires { length bytes.now ≤ MOST_BYTES }
     ensures { MatchResult result (SpellsSheet bytes.now) (IsReason bytes.now) }

@@ -8,6 +8,7 @@ use ff_tables::NoMemory;
 use std::alloc::Global;
 use thiserror::Error;
 
+// How many bytes a call of the source may give at most.
 const BLOCK: usize = 1 << 14;
 
 /// What was read.
