@@ -48,9 +48,12 @@ run_of_part words left before after answered text a part = record {
   front = front_of words a.0 before after answered text a.2 (part_front before after text part);
 }
 
--- no answer is a write fault
+-- no answer is a fault
 pub not_write_fault : (words : List (List ℕ)) (input : List ℕ) (status : Status) (text : List ℕ) → IsAnswer words input status text → status ≡ WriteFault → ⊥
 not_write_fault words input status text a e = subst (λ (s : Status). IsAnswer words input s text) e a
+
+pub not_read_fault : (words : List (List ℕ)) (input : List ℕ) (status : Status) (text : List ℕ) → IsAnswer words input status text → status ≡ ReadFault → ⊥
+not_read_fault words input status text a e = subst (λ (s : Status). IsAnswer words input s text) e a
 
 -- by status
 settled_or : (words : List (List ℕ)) (input : List ℕ) (before after : Option (List ℕ)) (status : Status) (no_fault : Type 0) (s : Status) (text : List ℕ)

@@ -81,36 +81,6 @@ fn prepare<S: Source>(alloc: Global, words: &[String], source: &mut S) -> Result
     }
 }
 
-// The run itself, without what follows from its other clauses.
-fn answer<S: Source, K: Sink>(
-    alloc: Global,
-    words: &[String],
-    source: &mut S,
-    sink: &mut K,
-) -> Status
-    ensures run { IsRun (map string_bytes words.now) (S.left source.old) (K.held sink.old) (K.held sink.new) result }
-    ensures unread { (map string_bytes words.now ≡ solve_words → ⊥) → source.new ≡ source.old }
-    ensures read_off { IsAnswered result → map string_bytes words.now ≡ solve_words
-        → IsReadOff MOST_BYTES (S.left source.old) (S.left source.new) }
-    ensures read_first { (sink.new ≡ sink.old → ⊥) → map string_bytes words.now ≡ solve_words
-        → IsReadOff MOST_BYTES (S.left source.old) (S.left source.new) }
-    ensures read_fault { result ≡ Status.ReadFault → Rose (S.faults source.old) (S.faults source.new) (S.at_last source.new) }
-    ensures nothing_written { result ≡ Status.ReadFault → sink.new ≡ sink.old }
-    ensures write_fault { result ≡ Status.WriteFault → Rose (K.faults sink.old) (K.faults sink.new) (K.at_last sink.new) }
-    ensures source_later { S.faults source.old ≤ S.faults source.new }
-    ensures sink_later { K.faults sink.old ≤ K.faults sink.new }
-{
-    let outcome = match prepare(alloc, words, source) {
-        Ok(outcome) => outcome,
-        Err(ReadNo::Failed) => return Status::ReadFault,
-        Err(ReadNo::NoMemory) => return Status::NoMemory,
-    };
-    match write_all(sink, outcome.text.as_str().as_bytes()) {
-        Ok(()) => outcome.status,
-        Err(_) => Status::WriteFault,
-    }
-}
-
 /// Does what the words say with the source's bytes, and writes the defined text to the sink. `words` are those after
 /// the program's name. It waits for nobody and returns.
 ///
@@ -145,7 +115,15 @@ pub fn run_alone<S: Source, K: Sink>(
     ensures source_later { S.faults source.old ≤ S.faults source.new }
     ensures sink_later { K.faults sink.old ≤ K.faults sink.new }
 {
-    answer(alloc, words, source, sink)
+    let outcome = match prepare(alloc, words, source) {
+        Ok(outcome) => outcome,
+        Err(ReadNo::Failed) => return Status::ReadFault,
+        Err(ReadNo::NoMemory) => return Status::NoMemory,
+    };
+    match write_all(sink, outcome.text.as_str().as_bytes()) {
+        Ok(()) => outcome.status,
+        Err(_) => Status::WriteFault,
+    }
 }
 
 /// A law: the words and an input have one answer. So each status of `run_alone` comes exactly where its row of

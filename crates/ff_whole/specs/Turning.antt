@@ -8,7 +8,8 @@ use Rattle.ff_whole.specs.Convex.{next, point_at, left_of}
 abbrev pub rank : Pt → ℤ
 rank p = pos (POINT_SIZE + POINT_SIZE) *ℤ p.x +ℤ p.y
 
--- At the place after i the ring goes straight or turns left. At the first place it turns left, and only there may both neighbours have greater ranks
+-- At the place after i the ring goes straight or turns left. At the first place it turns left, and only there may both
+-- neighbours have greater ranks.
 pub record IsCorner (points : List Pt) (first i : ℕ) : Type 0 where
   pub left : pos 0 ≤ℤ left_of points i (point_at points (next (length points) (next (length points) i)))
   pub sharp : next (length points) i ≡ first → pos 0 <ℤ left_of points i (point_at points (next (length points) (next (length points) i)))
