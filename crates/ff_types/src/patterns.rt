@@ -1,5 +1,5 @@
 //! Crease patterns as they are read.
-ghost use Rattle.ff_top.specs.Patterns.{IsPattern};
+ghost use Rattle.ff_types.specs.Patterns.{IsPattern};
 
 use ff_tables::Items;
 use ff_whole::Pt;

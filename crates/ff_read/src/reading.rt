@@ -3,14 +3,13 @@ ghost use Rattle.std.specs.Prelude.{◌≡◌, Option, None, Some, option_map, o
 ghost use Rattle.serde_json.specs.Data.{Data};
 ghost use Rattle.serde_json.specs.View.{view, items_view};
 ghost use Rattle.serde_json.specs.Find.{as_array, get as member};
-ghost use Rattle.ff_top.specs.Spelling.{object_of, point_of, ends_of, mark_of, two_of as two_items};
-ghost use Rattle.ff_top.specs.Spelling.{vertex_of as vertex, all_of as all_spelled, list_of as list_spelled};
-ghost use Rattle.ff_top.specs.Spelling.{list_at as list_under, optional_list_of};
-ghost use Rattle.ff_top.specs.Refusals.{IsReadAs, IsNotJson};
+ghost use Rattle.ff_read.specs.Spelling.{object_of, point_of, ends_of, mark_of, two_of as two_items};
+ghost use Rattle.ff_read.specs.Spelling.{vertex_of as vertex, all_of as all_spelled, list_of as list_spelled};
+ghost use Rattle.ff_read.specs.Spelling.{list_at as list_under, optional_list_of};
+ghost use Rattle.ff_types.specs.Refusals.{IsReadAs, IsNotJson};
 
-use crate::patterns::{EdgeEnds, Mark};
-use crate::refusals::{No, Refusal};
 use ff_tables::Items;
+use ff_types::{EdgeEnds, Mark, No, Refusal};
 use ff_whole::Pt;
 use serde_json::Value;
 use std::alloc::Global;

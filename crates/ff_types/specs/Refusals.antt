@@ -1,8 +1,8 @@
 -- When a call that reads gives a refusal. This project's own.
 use Rattle.std.specs.Prelude.{◌≡◌, Option, None, Some, Result, MatchResult}
-use Rattle.ff_top.specs.declared.refusals.Refusal.TheVariants.{NotJson, NotYet}
-use Rattle.ff_top.specs.declared.refusals.No.{No}
-use Rattle.ff_top.specs.declared.refusals.No.TheVariants.{Refused, NoMemory}
+use Rattle.ff_types.specs.declared.refusals.Refusal.TheVariants.{NotJson, NotYet}
+use Rattle.ff_types.specs.declared.refusals.No.{No}
+use Rattle.ff_types.specs.declared.refusals.No.TheVariants.{Refused, NoMemory}
 
 -- refused as not yet exactly where this holds
 abbrev pub IsNotYet : Type 0 → No → Type 0

@@ -4,9 +4,9 @@ use Rattle.std.specs.Prelude.{◌≡◌, ◌≢◌, ℕ, ◌<◌, ◌≤◌, Lis
 use Rattle.ff_whole.specs.declared.points.Pt.{Pt}
 use Rattle.ff_whole.specs.Points.{IsNear}
 use Rattle.ff_whole.specs.Convex.{point_at}
-use Rattle.ff_top.specs.declared.limits.TheConstants.{MOST_VERTICES, MOST_EDGES}
-use Rattle.ff_top.specs.declared.patterns.EdgeEnds.{EdgeEnds}
-use Rattle.ff_top.specs.declared.patterns.Mark.{Mark}
+use Rattle.ff_types.specs.declared.limits.TheConstants.{MOST_VERTICES, MOST_EDGES}
+use Rattle.ff_types.specs.declared.patterns.EdgeEnds.{EdgeEnds}
+use Rattle.ff_types.specs.declared.patterns.Mark.{Mark}
 
 -- the ends of an edge, whose number is to be below the length
 abbrev pub edge_at : List EdgeEnds → ℕ → EdgeEnds

@@ -5,10 +5,10 @@ use Rattle.serde_json.specs.Data.{Data, Items, no_items, item}
 use Rattle.serde_json.specs.Read.{read}
 use Rattle.serde_json.specs.Find.{get, as_object, as_array, as_number, as_i64, as_u64, as_str}
 use Rattle.ff_whole.specs.declared.points.Pt.{Pt}
-use Rattle.ff_top.specs.declared.patterns.EdgeEnds.{EdgeEnds}
-use Rattle.ff_top.specs.declared.patterns.Pattern.{Pattern}
-use Rattle.ff_top.specs.declared.patterns.Mark.{Mark}
-use Rattle.ff_top.specs.declared.patterns.Mark.TheVariants.{B, M, V, F, U}
+use Rattle.ff_types.specs.declared.patterns.EdgeEnds.{EdgeEnds}
+use Rattle.ff_types.specs.declared.patterns.Pattern.{Pattern}
+use Rattle.ff_types.specs.declared.patterns.Mark.{Mark}
+use Rattle.ff_types.specs.declared.patterns.Mark.TheVariants.{B, M, V, F, U}
 
 -- ---- the JSON object
 
