@@ -1,1 +1,13 @@
 pub mod SortedPairs
+pub mod Members
+pub mod Named
+pub mod Computing
+pub mod ComputedDrawings
+pub mod ComputedFaces
+pub mod ComputedFoldings
+mod DrawingTests
+mod FaceTests
+mod FoldingTests
+mod SheetTests
+mod CiteTests
+mod PlacingTests
