@@ -19,7 +19,7 @@ use Rattle.ff_types.specs.Rings.{corner, after, corners, Goes, IsRing, IsStrictl
 use Rattle.ff_types.specs.Areas.{area, area_from}
 use Rattle.ff_types.specs.Faces.{ring_at, mark_at, Belongs, Share, AreChained, IsOuter, IsOuterWalk, FitsMark, FitMarks, AreRings, list_before}
 use Rattle.ff_types.specs.Sides.{sides_at, IsFaceOf, AreSides, AreFaces}
-use Rattle.ff_types.proofs.Computing.{all_below, any_below, below, below_two, some_below, both, either, is_nonneg, is_nonpos, is_pos, nonneg, nonpos, positive, is_convex, convex}
+use Rattle.ff_types.proofs.Computing.{all_below, any_below, below, below_two, some_below, both, either, is_nonneg, is_nonpos, is_pos, nonneg, nonpos, positive, is_convex, convex, equal_itself}
 
 -- ---- which rings go along a directed edge
 
@@ -30,9 +30,6 @@ pub goes_so : (ring : List ℕ) (u v : ℕ) → IsTrue (goes ring u v) → Goes 
 goes_so ring u v t =
     let r = some_below (length ring) (λ i. corner ring i == u && after ring i == v) t in
     let b = both (corner ring r.0 == u) (after ring r.0 == v) r.2 in record { place = r.0; inside = r.1; from = eqb-true _ _ b.0; to = eqb-true _ _ b.1 }
-
-equal_itself : (n : ℕ) → (n == n) ≡ true
-equal_itself n = search rules
 
 any_at : (n : ℕ) (p : ℕ → Bool) (i : ℕ) → i < n → IsTrue (p i) → IsTrue (any_below n p)
 any_at zero p i h t = absurd (omega (arith, h))

@@ -1,6 +1,6 @@
 -- Facts on small drawings by computing: a test, and that what passes it holds. The tests ask more than is needed, so
 -- they show what holds and never what doesn't.
-use Rattle.std.proofs.Common.{◌≡◌, ◌≢◌, ℕ, zero, suc, ◌+◌, ◌<◌, ◌≤◌, ◌==◌, ◌⊎◌, inl, inr, ℤ, pos, negsuc, ◌*ℤ◌, ◌<ℤ◌, ◌≤ℤ◌, Bool, true, false, not, ◌&&◌, ◌||◌, List, [], ◌∷◌, length, map, refl, sym, ◌∙◌, ap, subst, Some, None, Option, arith, IsTrue, nat_lt, lit<}
+use Rattle.std.proofs.Common.{rules, ◌≡◌, ◌≢◌, ℕ, zero, suc, ◌+◌, ◌<◌, ◌≤◌, ◌==◌, ◌⊎◌, inl, inr, ℤ, pos, negsuc, ◌*ℤ◌, ◌<ℤ◌, ◌≤ℤ◌, Bool, true, false, not, ◌&&◌, ◌||◌, List, [], ◌∷◌, length, map, refl, sym, ◌∙◌, ap, subst, Some, None, Option, arith, IsTrue, nat_lt, lit<}
 use Rattle.std.specs.Prelude.{◌+ℤ◌, ◌-ℤ◌, unsigned_abs}
 use Rattle.std.specs.Ordering.{int_eq}
 use Rattle.std.proofs.lemmas.Int.{ints}
@@ -18,6 +18,9 @@ both false c e = absurd (false≢true e)
 pub either : (b c : Bool) → IsTrue (b || c) → IsTrue b ⊎ IsTrue c
 either true c e = inl refl
 either false c e = inr e
+
+pub equal_itself : (n : ℕ) → (n == n) ≡ true
+equal_itself n = search rules
 
 abbrev pub all_below : ℕ → (ℕ → Bool) → Bool
 all_below zero p = true
