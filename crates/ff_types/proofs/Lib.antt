@@ -14,3 +14,4 @@ mod PlacingTests
 pub mod Memberships
 pub mod TwoFaces
 pub mod FewFaces
+mod StackingTests
