@@ -9,7 +9,7 @@ use Rattle.ff_types.specs.declared.patterns.Mark.TheVariants.{B, U, F}
 use Rattle.ff_types.specs.Rings.{IsRing}
 use Rattle.ff_types.specs.Faces.{AreRings, Belongs}
 use Rattle.ff_types.specs.Sides.{AreFaces}
-use Rattle.ff_types.proofs.Named.{point, ends, sides, unit, unit_points, diagonal, diagonal_points, slant, slant_points, crease_v, crease_v_points, strip_212, strip_212_points, strip_fvf, strip_fvf_points, midlines, midlines_points}
+use Rattle.ff_types.proofs.Named.{point, ends, sides, unit, unit_points, diagonal, diagonal_points, slant, slant_points, crease_v, crease_points, strip_212, strip_212_points, strip_fvf, strip_fvf_points, midlines, midlines_points}
 use Rattle.ff_whole.specs.Convex.{left_of}
 use Rattle.ff_types.proofs.Computing.{below, is_pos, positive}
 use Rattle.ff_types.proofs.ComputedFaces.{faces_are}
@@ -23,8 +23,8 @@ diagonal_faces = faces_are diagonal_points diagonal.edges diagonal.marks diagona
 slant_faces : AreFaces slant_points slant.edges (Some slant.marks) slant.rings slant.sides slant.marks
 slant_faces = faces_are slant_points slant.edges slant.marks slant.rings slant.sides refl
 
-crease_faces : AreFaces crease_v_points crease_v.edges (Some crease_v.marks) crease_v.rings crease_v.sides crease_v.marks
-crease_faces = faces_are crease_v_points crease_v.edges crease_v.marks crease_v.rings crease_v.sides refl
+crease_faces : AreFaces crease_points crease_v.edges (Some crease_v.marks) crease_v.rings crease_v.sides crease_v.marks
+crease_faces = faces_are crease_points crease_v.edges crease_v.marks crease_v.rings crease_v.sides refl
 
 strip_faces : AreFaces strip_fvf_points strip_fvf.edges (Some strip_fvf.marks) strip_fvf.rings strip_fvf.sides strip_fvf.marks
 strip_faces = faces_are strip_fvf_points strip_fvf.edges strip_fvf.marks strip_fvf.rings strip_fvf.sides refl

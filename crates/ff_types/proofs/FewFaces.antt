@@ -13,7 +13,7 @@ use Rattle.ff_types.proofs.TwoFaces.{two_faces_geometric}
 
 -- ---- overlapping faces are faces
 
-inside_face : (g : Sheet) (f : ℕ) (s : Place) → IsTrue (is_inside g f s) → f < length g.rings
+pub inside_face : (g : Sheet) (f : ℕ) (s : Place) → IsTrue (is_inside g f s) → f < length g.rings
 inside_face g f s t = ltb-true f (length g.rings) (both (is_face g f) _ t).0
 
 pub overlap_first : (g : Sheet) (f h : ℕ) → Overlap g f h → f < length g.rings

@@ -6,7 +6,7 @@ use Rattle.ff_whole.specs.declared.points.Pt.{Pt}
 use Rattle.ff_whole.proofs.Laws.{*ℤ-distrib_left}
 use Rattle.ff_whole.specs.Convex.{point_at}
 use Rattle.ff_types.specs.Foldings.{IsFolding, Divides, DividesAll}
-use Rattle.ff_types.proofs.Named.{point, unit, unit_points, diagonal, diagonal_points, slant, slant_points, crease_v, crease_v_points, crease_u, strip_212, strip_212_points, strip_fvf, strip_fvf_points, midlines, midlines_points}
+use Rattle.ff_types.proofs.Named.{point, unit, unit_points, diagonal, diagonal_points, slant, slant_points, crease_v, crease_points, crease_u, strip_212, strip_212_points, strip_fvf, strip_fvf_points, midlines, midlines_points}
 use Rattle.ff_types.proofs.ComputedFoldings.{folding, least_one, one_has_no_factor}
 
 unit_folding : IsFolding unit_points unit.rings unit.sides unit.marks (pos 1) unit.images unit.up
@@ -15,8 +15,8 @@ unit_folding = folding unit_points unit.rings unit.sides unit.marks (pos 1) unit
 diagonal_folding : IsFolding diagonal_points diagonal.rings diagonal.sides diagonal.marks (pos 1) diagonal.images diagonal.up
 diagonal_folding = folding diagonal_points diagonal.rings diagonal.sides diagonal.marks (pos 1) diagonal.images diagonal.up refl (least_one diagonal.images)
 
-crease_folding : IsFolding crease_v_points crease_v.rings crease_v.sides crease_v.marks (pos 1) crease_v.images crease_v.up
-crease_folding = folding crease_v_points crease_v.rings crease_v.sides crease_v.marks (pos 1) crease_v.images crease_v.up refl (least_one crease_v.images)
+crease_folding : IsFolding crease_points crease_v.rings crease_v.sides crease_v.marks (pos 1) crease_v.images crease_v.up
+crease_folding = folding crease_points crease_v.rings crease_v.sides crease_v.marks (pos 1) crease_v.images crease_v.up refl (least_one crease_v.images)
 
 strip_folding : IsFolding strip_212_points strip_212.rings strip_212.sides strip_212.marks (pos 1) strip_212.images strip_212.up
 strip_folding = folding strip_212_points strip_212.rings strip_212.sides strip_212.marks (pos 1) strip_212.images strip_212.up refl (least_one strip_212.images)
@@ -48,7 +48,7 @@ slant_folding = folding slant_points slant.rings slant.sides slant.marks (pos 5)
 -- ---- foldings that aren't
 
 -- the valley's sheet as it lay
-flat : IsFolding crease_v_points crease_v.rings crease_v.sides crease_v.marks (pos 1) crease_v_points (true ∷ true ∷ []) → ⊥
+flat : IsFolding crease_points crease_v.rings crease_v.sides crease_v.marks (pos 1) crease_points (true ∷ true ∷ []) → ⊥
 flat q = false≢true (sym (q.flags 4 1 0 (lit< tt) refl refl))
 
 -- it at scale 2: 2 divides all
@@ -62,11 +62,11 @@ two_divides (suc (suc zero)) h = ((pos 1, refl), (pos 1, refl))
 two_divides (suc (suc (suc zero))) h = ((pos 1, refl), (pos 0, refl))
 two_divides (suc (suc (suc (suc v)))) h = absurd (omega (arith, h))
 
-doubled : IsFolding crease_v_points crease_v.rings crease_v.sides crease_v.marks (pos 2) doubled_images (true ∷ false ∷ []) → ⊥
+doubled : IsFolding crease_points crease_v.rings crease_v.sides crease_v.marks (pos 2) doubled_images (true ∷ false ∷ []) → ⊥
 doubled q = q.least 2 (lit< tt) (record { scale_too = (pos 1, refl); xs = λ v h. (two_divides v h).0; ys = λ v h. (two_divides v h).1 })
 
 -- the valley reflected the wrong way: face 1 lies where it lay, turned over by its flag alone
-unreflected : IsFolding crease_v_points crease_v.rings crease_v.sides crease_v.marks (pos 1) crease_v_points (true ∷ false ∷ []) → ⊥
+unreflected : IsFolding crease_points crease_v.rings crease_v.sides crease_v.marks (pos 1) crease_points (true ∷ false ∷ []) → ⊥
 unreflected q = let h : pos 1 ≡ negsuc 0 = (q.shapes 1 (lit< tt) 0 1 2 (lit< tt) (lit< tt) (lit< tt)).crosses in absurd (omega (arith, ints))
 
 -- a scale that grows and leaves the earlier points as they were: the slant with face 0 at scale 1

@@ -14,4 +14,5 @@ mod PlacingTests
 pub mod Memberships
 pub mod TwoFaces
 pub mod FewFaces
-mod StackingTests
+pub mod StackingTests
+mod CaseTests

@@ -1,8 +1,9 @@
--- The named patterns, folded: their drawings' points, faces, foldings and marks.
+-- The named patterns of docs/FORMATS.md and some more, folded: for each the folded sheet and the points of its drawing.
 use Rattle.std.specs.Prelude.{ℕ, ℤ, pos, negsuc, true, false, List, [], ◌∷◌, Option, Some, None}
 use Rattle.ff_whole.specs.declared.points.Pt.{Pt}
 use Rattle.ff_types.specs.declared.patterns.EdgeEnds.{EdgeEnds}
 use Rattle.ff_types.specs.declared.faces.EdgeSides.{EdgeSides}
+use Rattle.ff_types.specs.declared.patterns.Mark.{Mark}
 use Rattle.ff_types.specs.declared.patterns.Mark.TheVariants.{B, M, V, F, U}
 use Rattle.ff_types.specs.Sheets.{Sheet}
 
@@ -22,7 +23,7 @@ unit = record {
   rings = (0 ∷ 1 ∷ 2 ∷ 3 ∷ []) ∷ [];
   up = true ∷ [];
   edges = ends 0 1 ∷ ends 1 2 ∷ ends 2 3 ∷ ends 3 0 ∷ [];
-  sides = sides (Some 0) (None) ∷ sides (Some 0) (None) ∷ sides (Some 0) (None) ∷ sides (Some 0) (None) ∷ [];
+  sides = sides (Some 0) None ∷ sides (Some 0) None ∷ sides (Some 0) None ∷ sides (Some 0) None ∷ [];
   marks = B ∷ B ∷ B ∷ B ∷ [];
 }
 
@@ -36,54 +37,35 @@ diagonal = record {
   rings = (0 ∷ 1 ∷ 2 ∷ []) ∷ (0 ∷ 2 ∷ 3 ∷ []) ∷ [];
   up = true ∷ true ∷ [];
   edges = ends 0 1 ∷ ends 1 2 ∷ ends 2 3 ∷ ends 3 0 ∷ ends 0 2 ∷ [];
-  sides = sides (Some 0) (None) ∷ sides (Some 0) (None) ∷ sides (Some 1) (None) ∷ sides (Some 1) (None) ∷ sides (Some 1) (Some 0) ∷ [];
+  sides = sides (Some 0) None ∷ sides (Some 0) None ∷ sides (Some 1) None ∷ sides (Some 1) None ∷ sides (Some 1) (Some 0) ∷ [];
   marks = B ∷ B ∷ B ∷ B ∷ F ∷ [];
 }
 
 abbrev pub diagonal_points : List Pt
 diagonal_points = point (pos 0) (pos 0) ∷ point (pos 1) (pos 0) ∷ point (pos 1) (pos 1) ∷ point (pos 0) (pos 1) ∷ []
 
--- scale 1
+-- the unit square with a crease along its diagonal, by the crease's mark; scale 1
+abbrev pub crease : Mark → Sheet
+crease mark = record {
+  images = point (pos 0) (pos 0) ∷ point (pos 1) (pos 0) ∷ point (pos 1) (pos 1) ∷ point (pos 1) (pos 0) ∷ [];
+  rings = (0 ∷ 1 ∷ 2 ∷ []) ∷ (0 ∷ 2 ∷ 3 ∷ []) ∷ [];
+  up = true ∷ false ∷ [];
+  edges = ends 0 1 ∷ ends 1 2 ∷ ends 2 3 ∷ ends 3 0 ∷ ends 0 2 ∷ [];
+  sides = sides (Some 0) None ∷ sides (Some 0) None ∷ sides (Some 1) None ∷ sides (Some 1) None ∷ sides (Some 1) (Some 0) ∷ [];
+  marks = B ∷ B ∷ B ∷ B ∷ mark ∷ [];
+}
+
 abbrev pub crease_m : Sheet
-crease_m = record {
-  images = point (pos 0) (pos 0) ∷ point (pos 1) (pos 0) ∷ point (pos 1) (pos 1) ∷ point (pos 1) (pos 0) ∷ [];
-  rings = (0 ∷ 1 ∷ 2 ∷ []) ∷ (0 ∷ 2 ∷ 3 ∷ []) ∷ [];
-  up = true ∷ false ∷ [];
-  edges = ends 0 1 ∷ ends 1 2 ∷ ends 2 3 ∷ ends 3 0 ∷ ends 0 2 ∷ [];
-  sides = sides (Some 0) (None) ∷ sides (Some 0) (None) ∷ sides (Some 1) (None) ∷ sides (Some 1) (None) ∷ sides (Some 1) (Some 0) ∷ [];
-  marks = B ∷ B ∷ B ∷ B ∷ M ∷ [];
-}
+crease_m = crease M
 
-abbrev pub crease_m_points : List Pt
-crease_m_points = point (pos 0) (pos 0) ∷ point (pos 1) (pos 0) ∷ point (pos 1) (pos 1) ∷ point (pos 0) (pos 1) ∷ []
-
--- scale 1
 abbrev pub crease_v : Sheet
-crease_v = record {
-  images = point (pos 0) (pos 0) ∷ point (pos 1) (pos 0) ∷ point (pos 1) (pos 1) ∷ point (pos 1) (pos 0) ∷ [];
-  rings = (0 ∷ 1 ∷ 2 ∷ []) ∷ (0 ∷ 2 ∷ 3 ∷ []) ∷ [];
-  up = true ∷ false ∷ [];
-  edges = ends 0 1 ∷ ends 1 2 ∷ ends 2 3 ∷ ends 3 0 ∷ ends 0 2 ∷ [];
-  sides = sides (Some 0) (None) ∷ sides (Some 0) (None) ∷ sides (Some 1) (None) ∷ sides (Some 1) (None) ∷ sides (Some 1) (Some 0) ∷ [];
-  marks = B ∷ B ∷ B ∷ B ∷ V ∷ [];
-}
+crease_v = crease V
 
-abbrev pub crease_v_points : List Pt
-crease_v_points = point (pos 0) (pos 0) ∷ point (pos 1) (pos 0) ∷ point (pos 1) (pos 1) ∷ point (pos 0) (pos 1) ∷ []
-
--- scale 1
 abbrev pub crease_u : Sheet
-crease_u = record {
-  images = point (pos 0) (pos 0) ∷ point (pos 1) (pos 0) ∷ point (pos 1) (pos 1) ∷ point (pos 1) (pos 0) ∷ [];
-  rings = (0 ∷ 1 ∷ 2 ∷ []) ∷ (0 ∷ 2 ∷ 3 ∷ []) ∷ [];
-  up = true ∷ false ∷ [];
-  edges = ends 0 1 ∷ ends 1 2 ∷ ends 2 3 ∷ ends 3 0 ∷ ends 0 2 ∷ [];
-  sides = sides (Some 0) (None) ∷ sides (Some 0) (None) ∷ sides (Some 1) (None) ∷ sides (Some 1) (None) ∷ sides (Some 1) (Some 0) ∷ [];
-  marks = B ∷ B ∷ B ∷ B ∷ U ∷ [];
-}
+crease_u = crease U
 
-abbrev pub crease_u_points : List Pt
-crease_u_points = point (pos 0) (pos 0) ∷ point (pos 1) (pos 0) ∷ point (pos 1) (pos 1) ∷ point (pos 0) (pos 1) ∷ []
+abbrev pub crease_points : List Pt
+crease_points = unit_points
 
 -- scale 1
 abbrev pub strip_vv : Sheet
@@ -92,7 +74,7 @@ strip_vv = record {
   rings = (0 ∷ 1 ∷ 5 ∷ 4 ∷ []) ∷ (1 ∷ 2 ∷ 6 ∷ 5 ∷ []) ∷ (2 ∷ 3 ∷ 7 ∷ 6 ∷ []) ∷ [];
   up = true ∷ false ∷ true ∷ [];
   edges = ends 0 1 ∷ ends 1 2 ∷ ends 2 3 ∷ ends 3 7 ∷ ends 7 6 ∷ ends 6 5 ∷ ends 5 4 ∷ ends 4 0 ∷ ends 1 5 ∷ ends 2 6 ∷ [];
-  sides = sides (Some 0) (None) ∷ sides (Some 1) (None) ∷ sides (Some 2) (None) ∷ sides (Some 2) (None) ∷ sides (Some 2) (None) ∷ sides (Some 1) (None) ∷ sides (Some 0) (None) ∷ sides (Some 0) (None) ∷ sides (Some 0) (Some 1) ∷ sides (Some 1) (Some 2) ∷ [];
+  sides = sides (Some 0) None ∷ sides (Some 1) None ∷ sides (Some 2) None ∷ sides (Some 2) None ∷ sides (Some 2) None ∷ sides (Some 1) None ∷ sides (Some 0) None ∷ sides (Some 0) None ∷ sides (Some 0) (Some 1) ∷ sides (Some 1) (Some 2) ∷ [];
   marks = B ∷ B ∷ B ∷ B ∷ B ∷ B ∷ B ∷ B ∷ V ∷ V ∷ [];
 }
 
@@ -106,7 +88,7 @@ strip_vm = record {
   rings = (0 ∷ 1 ∷ 5 ∷ 4 ∷ []) ∷ (1 ∷ 2 ∷ 6 ∷ 5 ∷ []) ∷ (2 ∷ 3 ∷ 7 ∷ 6 ∷ []) ∷ [];
   up = true ∷ false ∷ true ∷ [];
   edges = ends 0 1 ∷ ends 1 2 ∷ ends 2 3 ∷ ends 3 7 ∷ ends 7 6 ∷ ends 6 5 ∷ ends 5 4 ∷ ends 4 0 ∷ ends 1 5 ∷ ends 2 6 ∷ [];
-  sides = sides (Some 0) (None) ∷ sides (Some 1) (None) ∷ sides (Some 2) (None) ∷ sides (Some 2) (None) ∷ sides (Some 2) (None) ∷ sides (Some 1) (None) ∷ sides (Some 0) (None) ∷ sides (Some 0) (None) ∷ sides (Some 0) (Some 1) ∷ sides (Some 1) (Some 2) ∷ [];
+  sides = sides (Some 0) None ∷ sides (Some 1) None ∷ sides (Some 2) None ∷ sides (Some 2) None ∷ sides (Some 2) None ∷ sides (Some 1) None ∷ sides (Some 0) None ∷ sides (Some 0) None ∷ sides (Some 0) (Some 1) ∷ sides (Some 1) (Some 2) ∷ [];
   marks = B ∷ B ∷ B ∷ B ∷ B ∷ B ∷ B ∷ B ∷ V ∷ M ∷ [];
 }
 
@@ -120,7 +102,7 @@ strip_uu = record {
   rings = (0 ∷ 1 ∷ 5 ∷ 4 ∷ []) ∷ (1 ∷ 2 ∷ 6 ∷ 5 ∷ []) ∷ (2 ∷ 3 ∷ 7 ∷ 6 ∷ []) ∷ [];
   up = true ∷ false ∷ true ∷ [];
   edges = ends 0 1 ∷ ends 1 2 ∷ ends 2 3 ∷ ends 3 7 ∷ ends 7 6 ∷ ends 6 5 ∷ ends 5 4 ∷ ends 4 0 ∷ ends 1 5 ∷ ends 2 6 ∷ [];
-  sides = sides (Some 0) (None) ∷ sides (Some 1) (None) ∷ sides (Some 2) (None) ∷ sides (Some 2) (None) ∷ sides (Some 2) (None) ∷ sides (Some 1) (None) ∷ sides (Some 0) (None) ∷ sides (Some 0) (None) ∷ sides (Some 0) (Some 1) ∷ sides (Some 1) (Some 2) ∷ [];
+  sides = sides (Some 0) None ∷ sides (Some 1) None ∷ sides (Some 2) None ∷ sides (Some 2) None ∷ sides (Some 2) None ∷ sides (Some 1) None ∷ sides (Some 0) None ∷ sides (Some 0) None ∷ sides (Some 0) (Some 1) ∷ sides (Some 1) (Some 2) ∷ [];
   marks = B ∷ B ∷ B ∷ B ∷ B ∷ B ∷ B ∷ B ∷ U ∷ U ∷ [];
 }
 
@@ -134,7 +116,7 @@ strip_uuu = record {
   rings = (0 ∷ 1 ∷ 6 ∷ 5 ∷ []) ∷ (1 ∷ 2 ∷ 7 ∷ 6 ∷ []) ∷ (2 ∷ 3 ∷ 8 ∷ 7 ∷ []) ∷ (3 ∷ 4 ∷ 9 ∷ 8 ∷ []) ∷ [];
   up = true ∷ false ∷ true ∷ false ∷ [];
   edges = ends 0 1 ∷ ends 1 2 ∷ ends 2 3 ∷ ends 3 4 ∷ ends 4 9 ∷ ends 9 8 ∷ ends 8 7 ∷ ends 7 6 ∷ ends 6 5 ∷ ends 5 0 ∷ ends 1 6 ∷ ends 2 7 ∷ ends 3 8 ∷ [];
-  sides = sides (Some 0) (None) ∷ sides (Some 1) (None) ∷ sides (Some 2) (None) ∷ sides (Some 3) (None) ∷ sides (Some 3) (None) ∷ sides (Some 3) (None) ∷ sides (Some 2) (None) ∷ sides (Some 1) (None) ∷ sides (Some 0) (None) ∷ sides (Some 0) (None) ∷ sides (Some 0) (Some 1) ∷ sides (Some 1) (Some 2) ∷ sides (Some 2) (Some 3) ∷ [];
+  sides = sides (Some 0) None ∷ sides (Some 1) None ∷ sides (Some 2) None ∷ sides (Some 3) None ∷ sides (Some 3) None ∷ sides (Some 3) None ∷ sides (Some 2) None ∷ sides (Some 1) None ∷ sides (Some 0) None ∷ sides (Some 0) None ∷ sides (Some 0) (Some 1) ∷ sides (Some 1) (Some 2) ∷ sides (Some 2) (Some 3) ∷ [];
   marks = B ∷ B ∷ B ∷ B ∷ B ∷ B ∷ B ∷ B ∷ B ∷ B ∷ U ∷ U ∷ U ∷ [];
 }
 
@@ -148,7 +130,7 @@ strip_fvf = record {
   rings = (0 ∷ 1 ∷ 6 ∷ 5 ∷ []) ∷ (1 ∷ 2 ∷ 7 ∷ 6 ∷ []) ∷ (2 ∷ 3 ∷ 8 ∷ 7 ∷ []) ∷ (3 ∷ 4 ∷ 9 ∷ 8 ∷ []) ∷ [];
   up = true ∷ true ∷ false ∷ false ∷ [];
   edges = ends 0 1 ∷ ends 1 2 ∷ ends 2 3 ∷ ends 3 4 ∷ ends 4 9 ∷ ends 9 8 ∷ ends 8 7 ∷ ends 7 6 ∷ ends 6 5 ∷ ends 5 0 ∷ ends 1 6 ∷ ends 2 7 ∷ ends 3 8 ∷ [];
-  sides = sides (Some 0) (None) ∷ sides (Some 1) (None) ∷ sides (Some 2) (None) ∷ sides (Some 3) (None) ∷ sides (Some 3) (None) ∷ sides (Some 3) (None) ∷ sides (Some 2) (None) ∷ sides (Some 1) (None) ∷ sides (Some 0) (None) ∷ sides (Some 0) (None) ∷ sides (Some 0) (Some 1) ∷ sides (Some 1) (Some 2) ∷ sides (Some 2) (Some 3) ∷ [];
+  sides = sides (Some 0) None ∷ sides (Some 1) None ∷ sides (Some 2) None ∷ sides (Some 3) None ∷ sides (Some 3) None ∷ sides (Some 3) None ∷ sides (Some 2) None ∷ sides (Some 1) None ∷ sides (Some 0) None ∷ sides (Some 0) None ∷ sides (Some 0) (Some 1) ∷ sides (Some 1) (Some 2) ∷ sides (Some 2) (Some 3) ∷ [];
   marks = B ∷ B ∷ B ∷ B ∷ B ∷ B ∷ B ∷ B ∷ B ∷ B ∷ F ∷ V ∷ F ∷ [];
 }
 
@@ -162,7 +144,7 @@ strip_212 = record {
   rings = (0 ∷ 1 ∷ 5 ∷ 4 ∷ []) ∷ (1 ∷ 2 ∷ 6 ∷ 5 ∷ []) ∷ (2 ∷ 3 ∷ 7 ∷ 6 ∷ []) ∷ [];
   up = true ∷ false ∷ true ∷ [];
   edges = ends 0 1 ∷ ends 1 2 ∷ ends 2 3 ∷ ends 3 7 ∷ ends 7 6 ∷ ends 6 5 ∷ ends 5 4 ∷ ends 4 0 ∷ ends 1 5 ∷ ends 2 6 ∷ [];
-  sides = sides (Some 0) (None) ∷ sides (Some 1) (None) ∷ sides (Some 2) (None) ∷ sides (Some 2) (None) ∷ sides (Some 2) (None) ∷ sides (Some 1) (None) ∷ sides (Some 0) (None) ∷ sides (Some 0) (None) ∷ sides (Some 0) (Some 1) ∷ sides (Some 1) (Some 2) ∷ [];
+  sides = sides (Some 0) None ∷ sides (Some 1) None ∷ sides (Some 2) None ∷ sides (Some 2) None ∷ sides (Some 2) None ∷ sides (Some 1) None ∷ sides (Some 0) None ∷ sides (Some 0) None ∷ sides (Some 0) (Some 1) ∷ sides (Some 1) (Some 2) ∷ [];
   marks = B ∷ B ∷ B ∷ B ∷ B ∷ B ∷ B ∷ B ∷ V ∷ V ∷ [];
 }
 
@@ -176,7 +158,7 @@ midlines = record {
   rings = (0 ∷ 1 ∷ 4 ∷ 3 ∷ []) ∷ (1 ∷ 2 ∷ 5 ∷ 4 ∷ []) ∷ (3 ∷ 4 ∷ 7 ∷ 6 ∷ []) ∷ (4 ∷ 5 ∷ 8 ∷ 7 ∷ []) ∷ [];
   up = true ∷ false ∷ false ∷ true ∷ [];
   edges = ends 0 1 ∷ ends 1 2 ∷ ends 2 5 ∷ ends 5 8 ∷ ends 8 7 ∷ ends 7 6 ∷ ends 6 3 ∷ ends 3 0 ∷ ends 1 4 ∷ ends 4 7 ∷ ends 3 4 ∷ ends 4 5 ∷ [];
-  sides = sides (Some 0) (None) ∷ sides (Some 1) (None) ∷ sides (Some 1) (None) ∷ sides (Some 3) (None) ∷ sides (Some 3) (None) ∷ sides (Some 2) (None) ∷ sides (Some 2) (None) ∷ sides (Some 0) (None) ∷ sides (Some 0) (Some 1) ∷ sides (Some 2) (Some 3) ∷ sides (Some 2) (Some 0) ∷ sides (Some 3) (Some 1) ∷ [];
+  sides = sides (Some 0) None ∷ sides (Some 1) None ∷ sides (Some 1) None ∷ sides (Some 3) None ∷ sides (Some 3) None ∷ sides (Some 2) None ∷ sides (Some 2) None ∷ sides (Some 0) None ∷ sides (Some 0) (Some 1) ∷ sides (Some 2) (Some 3) ∷ sides (Some 2) (Some 0) ∷ sides (Some 3) (Some 1) ∷ [];
   marks = B ∷ B ∷ B ∷ B ∷ B ∷ B ∷ B ∷ B ∷ U ∷ U ∷ U ∷ U ∷ [];
 }
 
@@ -190,7 +172,7 @@ slant = record {
   rings = (0 ∷ 1 ∷ 4 ∷ 5 ∷ []) ∷ (1 ∷ 2 ∷ 3 ∷ 4 ∷ []) ∷ [];
   up = true ∷ false ∷ [];
   edges = ends 0 1 ∷ ends 1 2 ∷ ends 2 3 ∷ ends 3 4 ∷ ends 4 5 ∷ ends 5 0 ∷ ends 1 4 ∷ [];
-  sides = sides (Some 0) (None) ∷ sides (Some 1) (None) ∷ sides (Some 1) (None) ∷ sides (Some 1) (None) ∷ sides (Some 0) (None) ∷ sides (Some 0) (None) ∷ sides (Some 0) (Some 1) ∷ [];
+  sides = sides (Some 0) None ∷ sides (Some 1) None ∷ sides (Some 1) None ∷ sides (Some 1) None ∷ sides (Some 0) None ∷ sides (Some 0) None ∷ sides (Some 0) (Some 1) ∷ [];
   marks = B ∷ B ∷ B ∷ B ∷ B ∷ B ∷ V ∷ [];
 }
 

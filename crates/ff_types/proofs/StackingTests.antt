@@ -32,7 +32,7 @@ unit_stacks = one_face_stacks unit refl
 
 -- ---- one crease. Whatever its mark, its faces overlap
 
-crease_overlap : (g : Sheet) → IsTrue (is_inside g 0 (at (pos 3) (pos 1) (pos 4)) && is_inside g 1 (at (pos 3) (pos 1) (pos 4))) → Overlap g 0 1
+pub crease_overlap : (g : Sheet) → IsTrue (is_inside g 0 (at (pos 3) (pos 1) (pos 4)) && is_inside g 1 (at (pos 3) (pos 1) (pos 4))) → Overlap g 0 1
 crease_overlap g t = let b = both (is_inside g 0 (at (pos 3) (pos 1) (pos 4))) _ t in record { differ = λ e. absurd (omega (arith, e)); common = record { at = at (pos 3) (pos 1) (pos 4); place = omega (arith, ints); inside = all _ _ b.0 b.1 } } where
   all : (b c : Bool) → IsTrue b → IsTrue c → IsTrue (b && (c && true))
   all true true t u = refl
