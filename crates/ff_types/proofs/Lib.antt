@@ -16,3 +16,4 @@ pub mod TwoFaces
 pub mod FewFaces
 pub mod StackingTests
 mod CaseTests
+mod DegenerateTests
