@@ -1,14 +1,12 @@
 -- The whole case of a sheet with one crease: one pair, no constraint, and the start of a valley.
-use Rattle.std.proofs.Common.{◌≡◌, ℕ, zero, suc, ◌<◌, ◌⊎◌, inl, inr, ◌↔◌, ℤ, pos, Bool, true, false, not, ◌&&◌, List, [], ◌∷◌, length, refl, sym, ◌∙◌, ap, subst, Some, None, Option, arith, lit<, IsTrue, slice_get}
-use Rattle.std.specs.Prelude.{int_lt, int_le, ◌*ℤ◌, ◌+ℤ◌}
+use Rattle.std.proofs.Common.{◌≡◌, ℕ, zero, suc, ◌<◌, ◌⊎◌, inl, inr, ◌↔◌, pos, Bool, true, false, ◌&&◌, List, [], ◌∷◌, length, refl, sym, ◌∙◌, ap, subst, Some, None, arith, lit<, IsTrue, slice_get}
+use Rattle.std.specs.Prelude.{int_lt, int_le}
 use Rattle.std.specs.Ordering.{int_eq}
 use Rattle.std.proofs.lemmas.Int.{ints}
 use Rattle.std.proofs.lemmas.Bool.Decides.{Decides-int_eq}
 use Rattle.std.proofs.lemmas.Bool.{false≢true, ltb-true}
 use Rattle.ff_tables.specs.declared.orders.Order.{Order}
 use Rattle.ff_tables.specs.declared.orders.Order.TheVariants.{Below, Above}
-use Rattle.ff_tables.specs.declared.terms.Constraint.{Constraint}
-use Rattle.ff_tables.specs.declared.systems.System.{System}
 use Rattle.ff_tables.specs.declared.givens.Given.{Given}
 use Rattle.ff_tables.specs.declared.givens.GivenBy.TheVariants.{Crease}
 use Rattle.ff_tables.specs.Systems.{AreFit}
@@ -23,7 +21,7 @@ use Rattle.ff_types.specs.Inside.{is_inside, depth, Overlap}
 use Rattle.ff_types.specs.Borders.{is_on}
 use Rattle.ff_types.specs.Segments.{HasEdgeInside}
 use Rattle.ff_types.specs.Cites.{Holds, is_flat, is_folded_edge, is_flat_edge}
-use Rattle.ff_types.specs.Cases.{IsCaseOf, key}
+use Rattle.ff_types.specs.Cases.{IsCaseOf}
 use Rattle.ff_types.specs.declared.patterns.Mark.{Mark}
 use Rattle.ff_types.specs.declared.patterns.Mark.TheVariants.{M, V, U}
 use Rattle.ff_types.specs.Foldings.{is_folded}

@@ -1,15 +1,14 @@
 -- That small patterns are drawings, by computing: each two edges are parted by a line that touches each in an end at most.
-use Rattle.std.proofs.Common.{◌≡◌, ◌≢◌, ℕ, zero, suc, ◌+◌, ◌<◌, ◌==◌, ◌⊎◌, inl, inr, ℤ, pos, negsuc, ◌*ℤ◌, ◌<ℤ◌, ◌≤ℤ◌, Bool, true, false, not, ◌&&◌, ◌||◌, List, [], ◌∷◌, length, refl, sym, ◌∙◌, ap, subst, arith, IsTrue, nat_lt, lit<}
-use Rattle.std.specs.Prelude.{◌+ℤ◌, ◌-ℤ◌, neg_ℤ, unsigned_abs}
+use Rattle.std.proofs.Common.{◌≡◌, ◌≢◌, ℕ, ◌==◌, ◌⊎◌, inl, inr, ℤ, pos, negsuc, ◌*ℤ◌, ◌≤ℤ◌, Bool, true, false, not, ◌&&◌, ◌||◌, List, [], ◌∷◌, length, refl, sym, ◌∙◌, ap, subst, arith, IsTrue, nat_lt}
+use Rattle.std.specs.Prelude.{◌+ℤ◌, ◌-ℤ◌, unsigned_abs}
 use Rattle.std.specs.List.{list_any}
 use Rattle.std.proofs.lemmas.Int.{ints}
 use Rattle.std.proofs.lemmas.Bool.{false≢true, eqb-true, eqb-false, ltb-true}
 use Rattle.ff_whole.specs.declared.points.Pt.{Pt}
-use Rattle.ff_whole.specs.Points.{mix, minus, dot, IsNear}
-use Rattle.ff_whole.specs.Sizes.{IsBelow}
+use Rattle.ff_whole.specs.Points.{mix, IsNear}
 use Rattle.ff_whole.specs.Convex.{point_at}
 use Rattle.ff_whole.proofs.Ring.{var, ◌⊕◌, ◌⊗◌, solve}
-use Rattle.ff_whole.proofs.Signs.{nonneg-mul, pos-mul, zero_product, nonneg-mul_nonpos, linear}
+use Rattle.ff_whole.proofs.Signs.{nonneg-mul, zero_product, nonneg-mul_nonpos, linear}
 use Rattle.ff_types.specs.declared.patterns.EdgeEnds.{EdgeEnds}
 use Rattle.ff_types.specs.Patterns.{edge_at, Joins}
 use Rattle.ff_types.specs.Drawings.{IsDrawing, MeetAtEnds, Common, IsEnd, HasTwoEdges, joins, has_end, first_point, last_point}
@@ -37,8 +36,8 @@ same_at h points e k s t u v c = mixed h s t (first_point points e) (last_point 
     ∙ (ap (λ p. ((h.a *ℤ p.x) +ℤ (h.b *ℤ p.y)) +ℤ ((pos s +ℤ pos t) *ℤ h.c)) c.same
     ∙ (ap (λ n. ((h.a *ℤ (mix u (first_point points k) v (last_point points k)).x) +ℤ (h.b *ℤ (mix u (first_point points k) v (last_point points k)).y)) +ℤ (n *ℤ h.c)) sums
     ∙ sym (mixed h u v (first_point points k) (last_point points k)))) where
-  sums : pos s +ℤ pos t ≡ pos u +ℤ pos v
-  sums = omega (arith, ints, c.sums)
+      sums : pos s +ℤ pos t ≡ pos u +ℤ pos v
+      sums = omega (arith, ints, c.sums)
 
 -- the line has the one edge on or right of it, the other on or left, and neither edge lies on it whole
 abbrev pub parts : Pt → Pt → Pt → Pt → Half → Bool

@@ -1,10 +1,9 @@
 -- That small lists of rings are the faces of a drawing, by computing. Only for convex sheets that have the origin on or
 -- inside their border, whose outer edges all sweep clockwise round the origin.
-use Rattle.std.proofs.Common.{rules, ◌≡◌, ◌≢◌, ℕ, zero, suc, ◌+◌, ◌<◌, ◌≤◌, ◌==◌, ◌⊎◌, inl, inr, ℤ, pos, negsuc, ◌*ℤ◌, ◌<ℤ◌, ◌≤ℤ◌, Bool, true, false, not, ◌&&◌, ◌||◌, List, [], ◌∷◌, length, refl, sym, ◌∙◌, ap, subst, Some, None, Option, arith, IsTrue, nat_lt, nat_le}
+use Rattle.std.proofs.Common.{◌≡◌, ℕ, zero, suc, ◌+◌, ◌<◌, ◌==◌, ◌⊎◌, inl, inr, ℤ, pos, ◌*ℤ◌, ◌<ℤ◌, ◌≤ℤ◌, Bool, true, false, not, ◌&&◌, ◌||◌, List, [], ◌∷◌, length, refl, sym, ◌∙◌, ap, subst, Some, None, Option, arith, IsTrue, nat_lt, nat_le}
 use Rattle.std.specs.Prelude.{◌+ℤ◌, if◌then◌else◌}
-use Rattle.std.specs.List.{list_any}
 use Rattle.std.proofs.lemmas.Int.{ints}
-use Rattle.std.proofs.lemmas.Bool.{false≢true, eqb-true, eqb-false, ltb-true, lt-ltb, le-ltb, leb-true}
+use Rattle.std.proofs.lemmas.Bool.{false≢true, eqb-true, ltb-true, lt-ltb, le-ltb, leb-true}
 use Rattle.ff_whole.specs.declared.points.Pt.{Pt}
 use Rattle.ff_whole.specs.Points.{cross}
 use Rattle.ff_whole.specs.Convex.{next, point_at, left_of}
@@ -15,11 +14,11 @@ use Rattle.ff_types.specs.declared.patterns.Mark.TheVariants.{B, M, V, F, U}
 use Rattle.ff_types.specs.declared.faces.EdgeSides.{EdgeSides}
 use Rattle.ff_types.specs.Patterns.{edge_at}
 use Rattle.ff_types.specs.Drawings.{joined, joins, first_point, last_point}
-use Rattle.ff_types.specs.Rings.{corner, after, corners, Goes, IsRing, IsStrictlyIn, IsMixStrictlyIn}
+use Rattle.ff_types.specs.Rings.{corner, after, corners, Goes, IsRing}
 use Rattle.ff_types.specs.Areas.{area, area_from}
-use Rattle.ff_types.specs.Faces.{ring_at, mark_at, Belongs, Share, AreChained, IsOuter, IsOuterWalk, FitsMark, FitMarks, AreRings, list_before}
-use Rattle.ff_types.specs.Sides.{sides_at, IsFaceOf, AreSides, AreFaces}
-use Rattle.ff_types.proofs.Computing.{all_below, any_below, below, below_two, some_below, both, either, is_nonneg, is_nonpos, is_pos, nonneg, nonpos, positive, is_convex, convex, equal_itself}
+use Rattle.ff_types.specs.Faces.{ring_at, mark_at, Belongs, Share, AreChained, IsOuter, IsOuterWalk, FitsMark, AreRings, list_before}
+use Rattle.ff_types.specs.Sides.{sides_at, IsFaceOf, AreFaces}
+use Rattle.ff_types.proofs.Computing.{all_below, any_below, below, below_two, some_below, both, either, is_nonpos, nonpos, is_convex, convex, equal_itself}
 
 -- ---- which rings go along a directed edge
 
@@ -91,14 +90,14 @@ ring points edges r t =
       joins = λ i h. (there i h).1;
       convex = convex (corners points r) d.0;
       no_vertex = λ v h s. let q = some_below (length (corners points r)) (λ i. is_nonpos (left_of (corners points r) i (point_at points v))) (below (length points) (λ v. any_below (length (corners points r)) (λ i. is_nonpos (left_of (corners points r) i (point_at points v)))) e.0 v h) in
-        not_in _ (nonpos (left_of (corners points r) q.0 (point_at points v)) q.2) (s q.0 q.1);
+          not_in _ (nonpos (left_of (corners points r) q.0 (point_at points v)) q.2) (s q.0 q.1);
       no_point = λ k s t h some m.
-        let q = some_below (length (corners points r)) (λ i. is_nonpos (left_of (corners points r) i (first_point points (edge_at edges k))) && is_nonpos (left_of (corners points r) i (last_point points (edge_at edges k)))) (below (length edges) (λ e. any_below (length (corners points r)) (λ i. is_nonpos (left_of (corners points r) i (first_point points (edge_at edges e))) && is_nonpos (left_of (corners points r) i (last_point points (edge_at edges e))))) e.1 k h) in
-        let x = both (is_nonpos (left_of (corners points r) q.0 (first_point points (edge_at edges k)))) (is_nonpos (left_of (corners points r) q.0 (last_point points (edge_at edges k)))) q.2 in
-        mixed_out s t (left_of (corners points r) q.0 (first_point points (edge_at edges k))) (left_of (corners points r) q.0 (last_point points (edge_at edges k))) (nonpos _ x.0) (nonpos _ x.1) (m q.0 q.1);
+          let q = some_below (length (corners points r)) (λ i. is_nonpos (left_of (corners points r) i (first_point points (edge_at edges k))) && is_nonpos (left_of (corners points r) i (last_point points (edge_at edges k)))) (below (length edges) (λ e. any_below (length (corners points r)) (λ i. is_nonpos (left_of (corners points r) i (first_point points (edge_at edges e))) && is_nonpos (left_of (corners points r) i (last_point points (edge_at edges e))))) e.1 k h) in
+          let x = both (is_nonpos (left_of (corners points r) q.0 (first_point points (edge_at edges k)))) (is_nonpos (left_of (corners points r) q.0 (last_point points (edge_at edges k)))) q.2 in
+          mixed_out s t (left_of (corners points r) q.0 (first_point points (edge_at edges k))) (left_of (corners points r) q.0 (last_point points (edge_at edges k))) (nonpos _ x.0) (nonpos _ x.1) (m q.0 q.1);
     } where
-  same : (a b : ℕ) → a ≡ b → (a == b) ≡ true
-  same a b e = rw e (equal_itself b)
+      same : (a b : ℕ) → a ≡ b → (a == b) ≡ true
+      same a b e = rw e (equal_itself b)
 
 -- ---- what holds along each edge, in both directions
 
@@ -278,7 +277,7 @@ faces_are points edges marks rings sides t =
       rings_are = rings_are points edges marks rings a.0;
       as_many_sides = eqb-true _ _ b.0;
       sides_are = λ k h. let x = both (is_face_of rings (edge_at edges k).a (edge_at edges k).b (sides_at sides k).left) (is_face_of rings (edge_at edges k).b (edge_at edges k).a (sides_at sides k).right) (below (length edges) (λ e. is_face_of rings (edge_at edges e).a (edge_at edges e).b (sides_at sides e).left && is_face_of rings (edge_at edges e).b (edge_at edges e).a (sides_at sides e).right) c.1 k h) in
-        record { left = face_of rings _ _ (sides_at sides k).left x.0; right = face_of rings _ _ (sides_at sides k).right x.1 };
+          record { left = face_of rings _ _ (sides_at sides k).left x.0; right = face_of rings _ _ (sides_at sides k).right x.1 };
       as_many_marks = eqb-true _ _ c.0;
       marks_are = λ k h. refl;
     }

@@ -1,5 +1,5 @@
 -- That small lists of images are a folding, by computing.
-use Rattle.std.proofs.Common.{rules, ◌≡◌, ℕ, zero, suc, ◌+◌, ◌<◌, ◌==◌, ℤ, pos, negsuc, ◌*ℤ◌, ◌≤ℤ◌, Bool, true, false, not, ◌&&◌, ◌||◌, List, [], ◌∷◌, length, refl, sym, ◌∙◌, ap, subst, Some, None, Option, arith, IsTrue}
+use Rattle.std.proofs.Common.{◌≡◌, ℕ, zero, suc, ◌<◌, ◌==◌, ℤ, pos, negsuc, ◌*ℤ◌, Bool, true, false, not, ◌&&◌, List, length, refl, ◌∙◌, ap, subst, Some, Option, arith, IsTrue}
 use Rattle.std.specs.Ordering.{int_eq}
 use Rattle.std.proofs.lemmas.Int.{ints}
 use Rattle.std.proofs.lemmas.Bool.{false≢true, eqb-true}
@@ -13,7 +13,7 @@ use Rattle.ff_types.specs.declared.faces.EdgeSides.{EdgeSides}
 use Rattle.ff_types.specs.Rings.{corner, corners}
 use Rattle.ff_types.specs.Faces.{ring_at, mark_at}
 use Rattle.ff_types.specs.Sides.{sides_at}
-use Rattle.ff_types.specs.Foldings.{IsFolding, KeepsShape, RingKeepsShape, DividesAll, FitFlags, is_up, signed, scaled, spread}
+use Rattle.ff_types.specs.Foldings.{IsFolding, RingKeepsShape, DividesAll, FitFlags, is_up, signed, scaled, spread}
 use Rattle.ff_types.proofs.Computing.{all_below, below, below_two, both, is_pos, positive, same_point}
 
 equal : (a b : ℤ) → IsTrue (int_eq a b) → a ≡ b

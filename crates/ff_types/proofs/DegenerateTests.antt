@@ -1,23 +1,23 @@
 -- Sheets at the edge of what is allowed: a straight corner, two edges between the same two faces, a border edge and a
 -- crease on one image, numbers that are no face's.
-use Rattle.std.proofs.Common.{◌≡◌, ℕ, zero, suc, ◌<◌, ℤ, pos, Bool, true, false, not, ◌&&◌, List, [], ◌∷◌, refl, sym, ◌∙◌, Some, None, arith, lit<, IsTrue}
+use Rattle.std.proofs.Common.{◌≡◌, ℕ, ◌<◌, ℤ, pos, Bool, true, false, not, ◌&&◌, List, [], ◌∷◌, refl, sym, Some, None, arith, lit<, IsTrue}
 use Rattle.std.proofs.lemmas.Int.{ints}
 use Rattle.std.proofs.lemmas.Bool.{false≢true}
 use Rattle.ff_whole.specs.declared.points.Pt.{Pt}
 use Rattle.ff_whole.specs.declared.places.Place.{Place}
-use Rattle.ff_types.specs.declared.patterns.Mark.TheVariants.{B, M, V, U}
-use Rattle.ff_types.specs.declared.cites.Cite.TheVariants.{Transitivity, TacoTaco, TacoFace}
+use Rattle.ff_types.specs.declared.patterns.Mark.TheVariants.{B, M, V}
+use Rattle.ff_types.specs.declared.cites.Cite.TheVariants.{Transitivity}
 use Rattle.ff_types.specs.Drawings.{IsDrawing}
 use Rattle.ff_types.specs.Sides.{AreFaces}
 use Rattle.ff_types.specs.Foldings.{IsFolding}
 use Rattle.ff_types.specs.Sheets.{Sheet}
-use Rattle.ff_types.specs.Inside.{is_inside, over, Overlap}
-use Rattle.ff_types.specs.Borders.{IsPlainBorder, is_on, is_between}
-use Rattle.ff_types.specs.Covering.{left_faces, right_faces, covers_left}
+use Rattle.ff_types.specs.Inside.{is_inside, Overlap}
+use Rattle.ff_types.specs.Borders.{IsPlainBorder, is_between}
+use Rattle.ff_types.specs.Covering.{left_faces, right_faces}
 use Rattle.ff_types.specs.Crossings.{chords, IsGeometricStacking}
 use Rattle.ff_types.specs.Crossings.Side.{Left, Right}
 use Rattle.ff_types.specs.Keeping.{KeepsCreases}
-use Rattle.ff_types.specs.Cites.{Holds, Witnessed}
+use Rattle.ff_types.specs.Cites.{Holds}
 use Rattle.ff_types.proofs.Named.{point, ends, sides, unit, strip_uu}
 use Rattle.ff_types.proofs.ComputedDrawings.{drawing}
 use Rattle.ff_types.proofs.ComputedFaces.{faces_are}

@@ -1,9 +1,7 @@
 -- Drawings that are, and that aren't.
-use Rattle.std.proofs.Common.{◌≡◌, ◌≢◌, ℕ, zero, suc, ◌⊎◌, inl, inr, pos, List, [], ◌∷◌, refl, arith, lit<}
-use Rattle.std.proofs.lemmas.Bool.{false≢true}
+use Rattle.std.proofs.Common.{ℕ, suc, inl, inr, pos, List, [], ◌∷◌, refl, arith, lit<}
 use Rattle.ff_whole.specs.declared.points.Pt.{Pt}
-use Rattle.ff_types.specs.declared.patterns.EdgeEnds.{EdgeEnds}
-use Rattle.ff_types.specs.Drawings.{IsDrawing, MeetAtEnds, IsEnd}
+use Rattle.ff_types.specs.Drawings.{IsDrawing, IsEnd}
 use Rattle.ff_types.proofs.Named.{point, ends, unit, unit_points, diagonal, diagonal_points, slant, slant_points, strip_212, strip_212_points, strip_uuu, strip_uuu_points, midlines, midlines_points}
 use Rattle.ff_types.proofs.ComputedDrawings.{drawing}
 

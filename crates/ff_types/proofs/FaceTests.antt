@@ -1,15 +1,11 @@
 -- Faces that are, and that aren't.
-use Rattle.std.proofs.Common.{◌≡◌, ℕ, zero, suc, ◌<◌, ◌⊎◌, inl, inr, pos, ◌*ℤ◌, ◌+ℤ◌, List, [], ◌∷◌, refl, sym, Some, None, arith, lit<}
+use Rattle.std.proofs.Common.{◌⊎◌, inl, inr, pos, ◌*ℤ◌, ◌+ℤ◌, [], ◌∷◌, refl, Some, None, arith, lit<}
 use Rattle.std.proofs.lemmas.Int.{ints}
 use Rattle.std.proofs.lemmas.Bool.{false≢true}
-use Rattle.ff_whole.specs.declared.points.Pt.{Pt}
-use Rattle.ff_types.specs.declared.patterns.EdgeEnds.{EdgeEnds}
-use Rattle.ff_types.specs.declared.patterns.Mark.{Mark}
-use Rattle.ff_types.specs.declared.patterns.Mark.TheVariants.{B, U, F}
 use Rattle.ff_types.specs.Rings.{IsRing}
 use Rattle.ff_types.specs.Faces.{AreRings, Belongs}
 use Rattle.ff_types.specs.Sides.{AreFaces}
-use Rattle.ff_types.proofs.Named.{point, ends, sides, unit, unit_points, diagonal, diagonal_points, slant, slant_points, crease_v, crease_points, strip_212, strip_212_points, strip_fvf, strip_fvf_points, midlines, midlines_points}
+use Rattle.ff_types.proofs.Named.{point, unit, unit_points, diagonal, diagonal_points, slant, slant_points, crease_v, crease_points, strip_fvf, strip_fvf_points, midlines, midlines_points}
 use Rattle.ff_whole.specs.Convex.{left_of}
 use Rattle.ff_types.proofs.Computing.{below, is_pos, positive}
 use Rattle.ff_types.proofs.ComputedFaces.{faces_are}

@@ -1,12 +1,12 @@
 -- The stackings of a sheet with one face, and of a sheet with two faces that overlap: none but the empty one, and the two
 -- in which one of the faces is above the other.
-use Rattle.std.proofs.Common.{◌≡◌, ℕ, zero, suc, ◌+◌, ◌<◌, ◌≤◌, ◌==◌, ◌⊎◌, inl, inr, Bool, true, false, not, ◌&&◌, List, [], ◌∷◌, length, refl, sym, ◌∙◌, ap, subst, arith, lit<, IsTrue, cond}
+use Rattle.std.proofs.Common.{◌≡◌, ℕ, zero, suc, ◌<◌, ◌==◌, ◌⊎◌, inl, inr, Bool, true, false, not, ◌&&◌, List, [], ◌∷◌, length, refl, sym, ◌∙◌, ap, subst, arith, lit<, IsTrue, cond}
 use Rattle.std.specs.List.{Contains, AllPairs, filter, range_with_len}
 use Rattle.std.proofs.lemmas.Bool.{false≢true, ltb-true, eqb-true}
 use Rattle.ff_whole.specs.declared.places.Place.{Place}
-use Rattle.ff_types.specs.Sheets.{Sheet, faces_of, is_face}
-use Rattle.ff_types.specs.Inside.{is_inside, HaveCommon, Overlap, over}
-use Rattle.ff_types.specs.Stackings.{OrdersOverlaps, IsListing, IsStacking, CanBeListed}
+use Rattle.ff_types.specs.Sheets.{Sheet, is_face}
+use Rattle.ff_types.specs.Inside.{is_inside, Overlap}
+use Rattle.ff_types.specs.Stackings.{OrdersOverlaps, IsStacking, CanBeListed}
 use Rattle.ff_types.specs.Crossings.{IsGeometricStacking}
 use Rattle.ff_types.proofs.Computing.{both, equal_itself}
 use Rattle.ff_types.proofs.TwoFaces.{two_faces_geometric}

@@ -6,7 +6,7 @@ use Rattle.ff_whole.specs.declared.points.Pt.{Pt}
 use Rattle.ff_whole.proofs.Laws.{*ℤ-distrib_left}
 use Rattle.ff_whole.specs.Convex.{point_at}
 use Rattle.ff_types.specs.Foldings.{IsFolding, Divides, DividesAll}
-use Rattle.ff_types.proofs.Named.{point, unit, unit_points, diagonal, diagonal_points, slant, slant_points, crease_v, crease_points, crease_u, strip_212, strip_212_points, strip_fvf, strip_fvf_points, midlines, midlines_points}
+use Rattle.ff_types.proofs.Named.{point, unit, unit_points, diagonal, diagonal_points, slant, slant_points, crease_v, crease_points, strip_212, strip_212_points, strip_fvf, strip_fvf_points, midlines, midlines_points}
 use Rattle.ff_types.proofs.ComputedFoldings.{folding, least_one, one_has_no_factor}
 
 unit_folding : IsFolding unit_points unit.rings unit.sides unit.marks (pos 1) unit.images unit.up

@@ -17,3 +17,5 @@ pub mod FewFaces
 pub mod StackingTests
 mod CaseTests
 mod DegenerateTests
+pub mod PairOrder
+pub mod Starts

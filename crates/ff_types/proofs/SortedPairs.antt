@@ -21,7 +21,7 @@ either_true true c e = inl refl
 either_true false c e = inr e
 
 -- before, in numbers
-before_is : (p q : ℕ × ℕ) → IsTrue (is_before p q) → (p.0 < q.0) ⊎ ((p.0 ≡ q.0) × (p.1 < q.1))
+pub before_is : (p q : ℕ × ℕ) → IsTrue (is_before p q) → (p.0 < q.0) ⊎ ((p.0 ≡ q.0) × (p.1 < q.1))
 before_is p q h = elim (either_true _ _ h) [
   | inl e ↦ inl (ltb-true _ _ e)
   | inr e ↦ let b = both_true _ _ e in inr (eqb-true _ _ b.0, ltb-true _ _ b.1)

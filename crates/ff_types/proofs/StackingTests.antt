@@ -1,5 +1,5 @@
 -- Stackings that are, and that aren't: a crease marked M, V or U, at scale 1 and 5, a flat one, paper that crosses; pins.
-use Rattle.std.proofs.Common.{◌≡◌, ℕ, zero, suc, ◌<◌, ◌⊎◌, inl, inr, ℤ, pos, Bool, true, false, not, ◌&&◌, List, [], ◌∷◌, refl, sym, ◌∙◌, ap, subst, Some, None, arith, lit<, IsTrue, slice_get, nat_lt}
+use Rattle.std.proofs.Common.{◌≡◌, ℕ, zero, suc, ◌<◌, ◌⊎◌, inl, inr, ℤ, pos, Bool, true, false, ◌&&◌, List, [], ◌∷◌, refl, sym, ◌∙◌, subst, Some, None, arith, lit<, IsTrue, nat_lt}
 use Rattle.std.specs.Prelude.{int_lt}
 use Rattle.std.proofs.lemmas.Int.{ints}
 use Rattle.std.proofs.lemmas.Bool.{false≢true}
@@ -12,7 +12,7 @@ use Rattle.ff_types.specs.Sheets.{Sheet}
 use Rattle.ff_types.specs.Inside.{is_inside, depth, Overlap}
 use Rattle.ff_types.specs.Borders.{IsPlainBorder}
 use Rattle.ff_types.specs.Covering.{left_faces, right_faces}
-use Rattle.ff_types.specs.Stackings.{IsListing, IsStacking, OrdersOverlaps}
+use Rattle.ff_types.specs.Stackings.{IsListing, IsStacking}
 use Rattle.ff_types.specs.Crossings.{circle, IsUncrossed, Alternate, IsGeometricStacking}
 use Rattle.ff_types.specs.Crossings.Side.{Left, Right}
 use Rattle.ff_types.specs.Keeping.{KeepsEdge, KeepsCreases, KeepsOrder, KeepsPins}
@@ -20,7 +20,7 @@ use Rattle.ff_types.specs.Values.{pairs_above}
 use Rattle.ff_types.proofs.Named.{unit, diagonal, crease_v, crease_m, crease_u, slant, strip_212}
 use Rattle.ff_types.proofs.Members.{turned_same, three_rise, one_rises}
 use Rattle.ff_types.proofs.Computing.{both}
-use Rattle.ff_types.proofs.FewFaces.{no_pairs, one_pair, one_face_stacks, one_face_only, two_faces_stack, upper_first, lower_first, two_faces_only, overlap_first}
+use Rattle.ff_types.proofs.FewFaces.{no_pairs, one_pair, one_face_stacks, one_face_only, two_faces_stack, upper_first, lower_first, two_faces_only}
 
 abbrev at : ℤ → ℤ → ℤ → Place
 at x y w = record { x = x; y = y; w = w }

@@ -1,17 +1,17 @@
 -- On a sheet of at most two faces no paper crosses: every stacking is geometric.
-use Rattle.std.proofs.Common.{◌≡◌, ℕ, zero, suc, ◌+◌, ◌<◌, ◌≤◌, ◌⊎◌, inl, inr, Bool, true, false, not, List, [], ◌∷◌, ◌++◌, length, map, reverse, refl, sym, ◌∙◌, ap, subst, Some, None, Option, arith, lit<, lit≤, IsTrue, get_or, if◌then◌else◌, cond}
-use Rattle.std.specs.List.{Contains, AllPairs, filter, range_with_len}
-use Rattle.std.proofs.lemmas.Bool.{false≢true, ltb-true, eqb-true}
+use Rattle.std.proofs.Common.{◌≡◌, ℕ, zero, suc, ◌+◌, ◌<◌, ◌≤◌, ◌⊎◌, inl, inr, Bool, true, false, not, List, [], ◌∷◌, length, map, reverse, refl, sym, ◌∙◌, ap, subst, Some, None, Option, arith, lit<, lit≤, IsTrue, get_or, if◌then◌else◌}
+use Rattle.std.specs.List.{Contains, AllPairs, filter}
+use Rattle.std.proofs.lemmas.Bool.{false≢true}
 use Rattle.std.proofs.lemmas.List.{length-map, length-reverse, length-append}
 use Rattle.std.proofs.lemmas.List.Elements.{Contains-append_cases}
 use Rattle.ff_whole.specs.declared.places.Place.{Place}
 use Rattle.ff_types.specs.declared.patterns.Mark.{Mark}
 use Rattle.ff_types.specs.declared.patterns.Mark.TheVariants.{B, M, V, F, U}
 use Rattle.ff_types.specs.Sheets.{Sheet, faces_of, edges_of, mark_of, left_face, right_face}
-use Rattle.ff_types.specs.Inside.{Overlap, over}
-use Rattle.ff_types.specs.Borders.{IsPlainBorder, is_on}
-use Rattle.ff_types.specs.Covering.{covers_left, covers_right, left_faces, right_faces}
-use Rattle.ff_types.specs.Stackings.{OrdersOverlaps, IsListing, IsStacking, CanBeListed}
+use Rattle.ff_types.specs.Inside.{over}
+use Rattle.ff_types.specs.Borders.{is_on}
+use Rattle.ff_types.specs.Covering.{covers_left, covers_right}
+use Rattle.ff_types.specs.Stackings.{OrdersOverlaps, IsListing, IsStacking}
 use Rattle.ff_types.specs.Crossings.{Side, circle, entry, face_chord, edge_chord, edge_chords, chords, Between, Outside, StandsAt, Alternate, IsUncrossed, IsGeometricStacking}
 use Rattle.ff_types.specs.Crossings.Side.{Left, Right}
 use Rattle.ff_types.proofs.Memberships.{no_member, by_member, first_member, later_member, in_map, in_filter, in_range}

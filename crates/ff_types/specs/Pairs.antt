@@ -1,9 +1,13 @@
 -- Pairs of faces and their numbers. This project's own.
-use Rattle.std.specs.Prelude.{◌≡◌, ℕ, ◌+◌, ◌<◌, ◌^◌, ◌==◌, Bool, ◌&&◌, ◌||◌, List, [], ◌∷◌, length, slice_get, Option, Some, None, if◌then◌else◌, option_map, nat_lt, IsTrue}
+use Rattle.std.specs.Prelude.{◌≡◌, ℕ, ◌+◌, ◌-◌, ◌<◌, ◌^◌, ◌==◌, Bool, ◌&&◌, ◌||◌, List, [], ◌∷◌, length, slice_get, slice_index_or, Option, Some, None, if◌then◌else◌, option_map, nat_lt, IsTrue}
 
 -- in order of the first face, then of the second
 abbrev pub is_before : ℕ × ℕ → ℕ × ℕ → Bool
 is_before p q = nat_lt p.0 q.0 || (p.0 == q.0 && nat_lt p.1 q.1)
+
+-- the pair at a place, which is to be below the length
+abbrev pub pair_at : List (ℕ × ℕ) → ℕ → ℕ × ℕ
+pair_at list n = slice_index_or list n (0, 0)
 
 -- pairs (f, g) with f < g, strictly in order
 pub record AreSorted (list : List (ℕ × ℕ)) : Type 0 where
@@ -32,3 +36,8 @@ number_of pairs f g = place_in pairs (in_order f g)
 abbrev pub StandsIn : List (ℕ × ℕ) → ℕ × ℕ → Option ℕ → Type 0
 StandsIn list p (Some n) = slice_get list n ≡ Some p
 StandsIn list p None = (n : ℕ) → slice_get list n ≡ Some p → ⊥
+
+-- the pair at a place has its lesser face first, and comes after the pair before
+pub record IsNext (list : List (ℕ × ℕ)) (n : ℕ) : Type 0 where
+  pub rising : (pair_at list n).0 < (pair_at list n).1
+  pub after : 0 < n → IsTrue (is_before (pair_at list (n - 1)) (pair_at list n))

@@ -9,12 +9,14 @@ mod pairs;
 mod patterns;
 mod pins;
 mod refusals;
+#[cfg(test)]
+mod tests;
 
-pub use cases::Case;
+pub use cases::{Case, case_of};
 pub use cites::{Cite, Listed};
 pub use faces::{EdgeSides, Faces, Folded};
 pub use limits::{MOST_BYTES, MOST_EDGES, MOST_VERTICES};
-pub use pairs::Pairs;
+pub use pairs::{Pairs, pairs_of};
 pub use patterns::{EdgeEnds, Mark, Pattern};
 pub use pins::Pin;
 pub use refusals::{Key, No, Refusal, What};

@@ -1,6 +1,6 @@
 //! The pairs of overlapping faces, numbered.
-ghost use Rattle.std.specs.Prelude.{◌≡◌, ℕ, ◌<◌, ◌^◌, length, slice_get, Some, option_map};
-ghost use Rattle.ff_types.specs.Pairs.{AreSorted, in_order as pair_in_order, number_of, StandsIn};
+ghost use Rattle.std.specs.Prelude.{◌≡◌, ◌<◌, ◌↔◌, ◌^◌, length, slice_get, IsTrue, Some, IfSome, IsSome};
+ghost use Rattle.ff_types.specs.Pairs.{is_before as pair_before, AreSorted, ArePairs, IsNext, in_order as pair_in_order, number_of, StandsIn};
 
 use ff_tables::Items;
 use std::marker::Model;
@@ -37,6 +37,47 @@ fn place_of(list: &[(u32, u32)], pair: (u32, u32)) -> Option<usize>
     list.binary_search(&pair).ok()
 }
 
+fn is_before(p: (u32, u32), q: (u32, u32)) -> bool
+    ensures { result ≡ pair_before p q }
+{
+    p.0 < q.0 || (p.0 == q.0 && p.1 < q.1)
+}
+
+// Whether the pair at the place has its lesser face first, and comes after the one before.
+fn is_next(list: &[(u32, u32)], n: usize) -> bool
+    requires { n < length list.now }
+    ensures { IsTrue result ↔ IsNext list.now n }
+{
+    let pair = list[n];
+    if pair.1 <= pair.0 {
+        return false;
+    }
+    n == 0 || is_before(list[n - 1], pair)
+}
+
+fn are_sorted(list: &[(u32, u32)]) -> bool
+    ensures { IsTrue result ↔ AreSorted list.now }
+{
+    for n in 0..list.len() {
+        if !is_next(list, n) {
+            return false;
+        }
+    }
+    true
+}
+
+/// The pairs of this list. None exactly where it isn't strictly in order with the lesser face first in each pair, or is
+/// longer than 32 bits number. It takes no memory.
+pub fn pairs_of(list: Items<(u32, u32)>) -> Option<Pairs>
+    ensures made { IfSome result (λ pairs. pairs ≡ list) }
+    ensures exact { IsSome result ↔ ArePairs list }
+{
+    if list.as_slice().len() > u32::MAX as usize || !are_sorted(list.as_slice()) {
+        return None;
+    }
+    Some(Pairs::of(list))
+}
+
 impl Pairs {
     /// The pairs of this list, each with its lesser face first, strictly in order. It takes no memory.
     pub fn of(list: Items<(u32, u32)>) -> Pairs
@@ -45,6 +86,14 @@ impl Pairs {
         ensures { result ≡ list }
     {
         Pairs { list }
+    }
+
+    /// How many pairs there are. It takes no memory.
+    pub fn count(&self) -> usize
+        ensures value { result ≡ length self.now }
+        ensures few { result < 2 ^ 32 }
+    {
+        self.list.as_slice().len()
     }
 
     /// The number of the pair of `f` and `g`, in either order. None exactly where the two faces don't overlap, are one or
