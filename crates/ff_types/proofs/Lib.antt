@@ -19,3 +19,4 @@ mod CaseTests
 mod DegenerateTests
 pub mod PairOrder
 pub mod Starts
+pub mod ConvexEdges

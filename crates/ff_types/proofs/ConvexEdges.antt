@@ -1,0 +1,276 @@
+-- The edges of a convex ring of different points meet only where one ends and the next begins. Going round from the first
+-- point in the order of x and then of y, that order rises and then falls; and edges on one line go in one direction.
+use Rattle.std.proofs.Common.{◌≡◌, ◌≢◌, ℕ, zero, suc, ◌+◌, ◌-◌, ◌<◌, ◌≤◌, ◌⊎◌, inl, inr, refl, sym, ◌∙◌, ap, subst, arith, ℤ, pos, ◌+ℤ◌, ◌-ℤ◌, ◌*ℤ◌, ◌<ℤ◌, ◌≤ℤ◌, List, [], ◌∷◌, length}
+use Rattle.std.specs.Prelude.{neg_ℤ}
+use lib.IntN.{*ℤ_comm, *ℤ-zero, zero-*ℤ}
+use Rattle.std.specs.List.{All}
+use Rattle.std.proofs.lemmas.Int.{ints, by_lt_z}
+use Rattle.std.proofs.lemmas.Bool.{cases_lt}
+use Rattle.std.proofs.lemmas.Bool.Decides.{eqb_tells}
+use Rattle.ff_whole.specs.declared.points.Pt.{Pt}
+use Rattle.ff_whole.specs.declared.sizes.TheConstants.{POINT_SIZE}
+use Rattle.ff_whole.specs.Points.{minus, cross, turn, mix, IsNear, origin}
+use Rattle.ff_whole.specs.Convex.{next, point_at, left_of, AreApart, IsConvex}
+use Rattle.ff_whole.specs.Turning.{rank, AreCorners}
+use Rattle.ff_whole.proofs.Ring.{var, num, ◌⊕◌, ◌⊖◌, ◌⊗◌, opp, solve}
+use Rattle.ff_whole.proofs.Signs.{linear, by_sign, nonneg-mul, nonneg-mul_nonpos, pos-mul, neg-mul_pos}
+use Rattle.ff_whole.proofs.Directions.{rank-minus, turn-step, turn-first}
+use Rattle.ff_whole.proofs.Ranks.{rank-same}
+use Rattle.ff_whole.proofs.ClosedLists.{next-below, next-apart, next-alone, walk, walk-below, walk-back, walk-to}
+use Rattle.ff_whole.proofs.ConvexRings.{corners_from_convex}
+
+-- ---- a least place
+
+pub least_place : (n : ℕ) (f : ℕ → ℤ) → 0 < n → (s : ℕ) × (s < n) × ((k : ℕ) → k < n → f s ≤ℤ f k)
+least_place zero f h = absurd (omega (arith, h))
+least_place (suc zero) f h = (0, omega arith, one) where
+  one : (k : ℕ) → k < 1 → f 0 ≤ℤ f k
+  one zero l = omega (arith, linear)
+  one (suc k) l = absurd (omega (arith, l))
+least_place (suc (suc n)) f h = by (least_place (suc n) f (omega arith)) where
+  by : (s : ℕ) × (s < suc n) × ((k : ℕ) → k < suc n → f s ≤ℤ f k) → (s : ℕ) × (s < suc (suc n)) × ((k : ℕ) → k < suc (suc n) → f s ≤ℤ f k)
+  by (s, l, least) = by_lt_z (f (suc n)) (f s) (λ m. (suc n, omega arith, last m)) (λ m. (s, omega (arith, l), first m)) where
+    last : f (suc n) <ℤ f s → (k : ℕ) → k < suc (suc n) → f (suc n) ≤ℤ f k
+    last m k o = elim (cases_lt k (suc n)) [ inl p ↦ (let q = least k p in omega (arith, linear)) | inr p ↦ (let e : k ≡ suc n = omega (arith, o, p) in subst (λ j. f (suc n) ≤ℤ f j) (sym e) (omega (arith, linear))) ]
+
+    first : f s ≤ℤ f (suc n) → (k : ℕ) → k < suc (suc n) → f s ≤ℤ f k
+    first m k o = elim (cases_lt k (suc n)) [ inl p ↦ least k p | inr p ↦ (let e : k ≡ suc n = omega (arith, o, p) in subst (λ j. f s ≤ℤ f j) (sym e) m) ]
+
+-- ---- directions of edges on one line
+
+-- each of three directions is a sum of multiples of the others
+exchange : (u h w : Pt) → rank u *ℤ cross h w ≡ rank h *ℤ cross u w -ℤ rank w *ℤ cross u h
+exchange u h w = solve (pos (POINT_SIZE + POINT_SIZE) ∷ u.x ∷ u.y ∷ h.x ∷ h.y ∷ w.x ∷ w.y ∷ [])
+    ((var 0 ⊗ var 1 ⊕ var 2) ⊗ (var 3 ⊗ var 6 ⊖ var 4 ⊗ var 5))
+    ((var 0 ⊗ var 3 ⊕ var 4) ⊗ (var 1 ⊗ var 6 ⊖ var 2 ⊗ var 5) ⊖ (var 0 ⊗ var 5 ⊕ var 6) ⊗ (var 1 ⊗ var 4 ⊖ var 2 ⊗ var 3)) refl
+
+way_up : (u h c d : ℤ) → u *ℤ c ≡ h *ℤ d → pos 0 ≤ℤ c → pos 0 <ℤ d → h ≢ pos 0 → pos 0 <ℤ u → pos 0 <ℤ h
+way_up u h c d e f g n p = let a = nonneg-mul u c (omega (arith, linear)) f in
+    by_sign h (λ l. let b = neg-mul_pos h d l g in absurd (omega (arith, linear))) (λ z. absurd (n z)) (λ l. l)
+
+way_down : (u h c d : ℤ) → u *ℤ c ≡ h *ℤ d → pos 0 ≤ℤ c → pos 0 <ℤ d → h ≢ pos 0 → u <ℤ pos 0 → h <ℤ pos 0
+way_down u h c d e f g n p = let a = nonneg-mul_nonpos c u f (omega (arith, linear)) in
+    let o = *ℤ_comm c u in
+    by_sign h (λ l. l) (λ z. absurd (n z)) (λ l. let b = pos-mul h d l g in absurd (omega (arith, linear)))
+
+-- a direction h along u, where some w lies left of u and not right of h, goes the way of u
+pub record GoesAlong (u h : Pt) : Type 0 where
+  pub up : pos 0 <ℤ rank u → pos 0 <ℤ rank h
+  pub down : rank u <ℤ pos 0 → rank h <ℤ pos 0
+
+goes_along : (u h w : Pt) → cross u h ≡ pos 0 → pos 0 <ℤ cross u w → pos 0 ≤ℤ cross h w → rank h ≢ pos 0 → GoesAlong u h
+goes_along u h w along left on hn = record { up = way_up (rank u) (rank h) (cross h w) (cross u w) same on left hn; down = way_down (rank u) (rank h) (cross h w) (cross u w) same on left hn } where
+  same : rank u *ℤ cross h w ≡ rank h *ℤ cross u w
+  same = let e = exchange u h w in let z = ap (λ x. rank w *ℤ x) along ∙ *ℤ-zero (rank w) in omega (arith, linear)
+
+-- ---- points of segments
+
+-- how far left of a line a point of a segment is, and where it stands in the order
+turn_mixed : (p q a b : Pt) (s t : ℤ) → s *ℤ turn p q a +ℤ t *ℤ turn p q b
+    ≡ cross (minus q p) (record { x = s *ℤ a.x +ℤ t *ℤ b.x; y = s *ℤ a.y +ℤ t *ℤ b.y }) -ℤ (s +ℤ t) *ℤ cross (minus q p) p
+turn_mixed p q a b s t = solve (p.x ∷ p.y ∷ q.x ∷ q.y ∷ a.x ∷ a.y ∷ b.x ∷ b.y ∷ s ∷ t ∷ [])
+    (var 8 ⊗ ((var 2 ⊖ var 0) ⊗ (var 5 ⊖ var 1) ⊖ (var 3 ⊖ var 1) ⊗ (var 4 ⊖ var 0)) ⊕ var 9 ⊗ ((var 2 ⊖ var 0) ⊗ (var 7 ⊖ var 1) ⊖ (var 3 ⊖ var 1) ⊗ (var 6 ⊖ var 0)))
+    (((var 2 ⊖ var 0) ⊗ (var 8 ⊗ var 5 ⊕ var 9 ⊗ var 7) ⊖ (var 3 ⊖ var 1) ⊗ (var 8 ⊗ var 4 ⊕ var 9 ⊗ var 6)) ⊖ (var 8 ⊕ var 9) ⊗ ((var 2 ⊖ var 0) ⊗ var 1 ⊖ (var 3 ⊖ var 1) ⊗ var 0)) refl
+
+rank_mixed : (a b : Pt) (s t : ℤ) → s *ℤ rank a +ℤ t *ℤ rank b ≡ rank (record { x = s *ℤ a.x +ℤ t *ℤ b.x; y = s *ℤ a.y +ℤ t *ℤ b.y })
+rank_mixed a b s t = solve (pos (POINT_SIZE + POINT_SIZE) ∷ a.x ∷ a.y ∷ b.x ∷ b.y ∷ s ∷ t ∷ [])
+    (var 5 ⊗ (var 0 ⊗ var 1 ⊕ var 2) ⊕ var 6 ⊗ (var 0 ⊗ var 3 ⊕ var 4)) (var 0 ⊗ (var 5 ⊗ var 1 ⊕ var 6 ⊗ var 3) ⊕ (var 5 ⊗ var 2 ⊕ var 6 ⊗ var 4)) refl
+
+-- ---- weighted means, where one segment of numbers lies before the other
+
+-- s p + t q and x m + y n with equal sums of weights
+before : (s t x y p q m n : ℤ) → s +ℤ t ≡ x +ℤ y → pos 0 ≤ℤ s → pos 0 ≤ℤ (x +ℤ y) → pos 0 <ℤ y → p <ℤ q → q ≤ℤ m → m <ℤ n → s *ℤ p +ℤ t *ℤ q ≡ x *ℤ m +ℤ y *ℤ n → ⊥
+before s t x y p q m n e a b c f g h k =
+    let i = solve (s ∷ t ∷ x ∷ y ∷ p ∷ q ∷ m ∷ n ∷ []) ((var 2 ⊗ var 6 ⊕ var 3 ⊗ var 7) ⊖ (var 0 ⊗ var 4 ⊕ var 1 ⊗ var 5))
+      ((var 0 ⊗ (var 5 ⊖ var 4) ⊕ (var 2 ⊕ var 3) ⊗ (var 6 ⊖ var 5) ⊕ var 3 ⊗ (var 7 ⊖ var 6)) ⊕ ((var 2 ⊕ var 3) ⊖ (var 0 ⊕ var 1)) ⊗ var 5) refl in
+    let z : (x +ℤ y) -ℤ (s +ℤ t) ≡ pos 0 = omega (arith, linear) in
+    let o = ap (λ v. v *ℤ q) z ∙ zero-*ℤ q in
+    let u = nonneg-mul s (q -ℤ p) a (omega (arith, linear)) in
+    let v = nonneg-mul (x +ℤ y) (m -ℤ q) b (omega (arith, linear)) in
+    let w = pos-mul y (n -ℤ m) c (omega (arith, linear)) in omega (arith, linear)
+
+-- the same with the segments exchanged
+after : (s t x y p q m n : ℤ) → s +ℤ t ≡ x +ℤ y → pos 0 ≤ℤ t → pos 0 ≤ℤ (x +ℤ y) → pos 0 <ℤ x → p <ℤ q → n ≤ℤ p → m <ℤ n → s *ℤ p +ℤ t *ℤ q ≡ x *ℤ m +ℤ y *ℤ n → ⊥
+after s t x y p q m n e a b c f g h k =
+    let i = solve (s ∷ t ∷ x ∷ y ∷ p ∷ q ∷ m ∷ n ∷ []) ((var 0 ⊗ var 4 ⊕ var 1 ⊗ var 5) ⊖ (var 2 ⊗ var 6 ⊕ var 3 ⊗ var 7))
+      ((var 1 ⊗ (var 5 ⊖ var 4) ⊕ (var 2 ⊕ var 3) ⊗ (var 4 ⊖ var 7) ⊕ var 2 ⊗ (var 7 ⊖ var 6)) ⊕ ((var 0 ⊕ var 1) ⊖ (var 2 ⊕ var 3)) ⊗ var 4) refl in
+    let z : (s +ℤ t) -ℤ (x +ℤ y) ≡ pos 0 = omega (arith, linear) in
+    let o = ap (λ v. v *ℤ p) z ∙ zero-*ℤ p in
+    let u = nonneg-mul t (q -ℤ p) a (omega (arith, linear)) in
+    let v = nonneg-mul (x +ℤ y) (p -ℤ n) b (omega (arith, linear)) in
+    let w = pos-mul x (n -ℤ m) c (omega (arith, linear)) in omega (arith, linear)
+
+negated : (s t x y p q m n : ℤ) → s *ℤ p +ℤ t *ℤ q ≡ x *ℤ m +ℤ y *ℤ n → s *ℤ neg_ℤ p +ℤ t *ℤ neg_ℤ q ≡ x *ℤ neg_ℤ m +ℤ y *ℤ neg_ℤ n
+negated s t x y p q m n e =
+    let a = solve (s ∷ t ∷ p ∷ q ∷ []) (var 0 ⊗ opp (var 2) ⊕ var 1 ⊗ opp (var 3)) (opp (var 0 ⊗ var 2 ⊕ var 1 ⊗ var 3)) refl in
+    let b = solve (x ∷ y ∷ m ∷ n ∷ []) (var 0 ⊗ opp (var 2) ⊕ var 1 ⊗ opp (var 3)) (opp (var 0 ⊗ var 2 ⊕ var 1 ⊗ var 3)) refl in
+    a ∙ (ap neg_ℤ e ∙ sym b)
+
+turn-last : (p q : Pt) → turn p q q ≡ pos 0
+turn-last p q = solve (p.x ∷ p.y ∷ q.x ∷ q.y ∷ []) ((var 2 ⊖ var 0) ⊗ (var 3 ⊖ var 1) ⊖ (var 3 ⊖ var 1) ⊗ (var 2 ⊖ var 0)) (num (pos 0)) refl
+
+-- a mean of two numbers that aren't negative is 0 where both are
+none : (a b x y : ℤ) → pos 0 ≤ℤ a → pos 0 ≤ℤ b → pos 0 <ℤ x → pos 0 <ℤ y → x *ℤ a +ℤ y *ℤ b ≡ pos 0 → (a ≡ pos 0) × (b ≡ pos 0)
+none a b x y f g h k e = (
+  by_sign a (λ l. absurd (omega (arith, linear))) (λ z. z) (λ l. let u = pos-mul x a h l in let v = nonneg-mul y b (omega (arith, linear)) g in absurd (omega (arith, linear))),
+  by_sign b (λ l. absurd (omega (arith, linear))) (λ z. z) (λ l. let u = pos-mul y b k l in let v = nonneg-mul x a (omega (arith, linear)) f in absurd (omega (arith, linear))),
+)
+
+-- ---- round a convex ring
+
+module _ (points : List Pt) (near : All IsNear points) (apart : AreApart points) (ring : IsConvex points) (enough : 2 ≤ length points) where
+  abbrev rk : ℕ → ℤ
+  rk i = rank (point_at points i)
+
+  start : (s : ℕ) × (s < length points) × ((k : ℕ) → k < length points → rk s ≤ℤ rk k)
+  start = least_place (length points) (λ i. rank (point_at points i)) ring.some
+
+  abbrev round : ℕ → ℕ
+  round k = walk (length points) start.0 k
+
+  round_below : (k : ℕ) → round k < length points
+  round_below k = walk-below (length points) start.0 k start.1
+
+  corners : AreCorners points start.0
+  corners = corners_from_convex points near apart start.0 start.1 start.2 ring
+
+  step_apart : (i : ℕ) → i < length points → rk i ≡ rk (next (length points) i) → ⊥
+  step_apart i h e = next-apart (length points) i enough h (sym (apart.differ i (next (length points) i) h (next-below (length points) i h) (rank-same _ _ (near i origin h) (near (next (length points) i) origin (next-below (length points) i h)) e)))
+
+  abbrev Rises : ℕ → Type 0
+  Rises k = rk (round k) <ℤ rk (round (suc k))
+
+  abbrev Falls : ℕ → Type 0
+  Falls k = rk (round (suc k)) <ℤ rk (round k)
+
+  -- where a step rises, so does the one before
+  rises_before : (k : ℕ) → suc k < length points → Rises (suc k) → Rises k
+  rises_before k h up = by_lt_z (rk (round k)) (rk (round (suc k))) (λ l. l) (λ l. absurd (not_start (fall l))) where
+    fall : rk (round (suc k)) ≤ℤ rk (round k) → rk (round (suc k)) <ℤ rk (round k)
+    fall l = by_lt_z (rk (round (suc k))) (rk (round k)) (λ m. m) (λ m. absurd (step_apart (round k) (round_below k) (omega (arith, linear))))
+
+    not_start : rk (round (suc k)) <ℤ rk (round k) → ⊥
+    not_start l = let e = walk-back (length points) start.0 (suc k) start.1 h ((corners.corner (round k) (round_below k)).lone l up) in omega (arith, e)
+
+  all_rise : (j k : ℕ) → j ≤ k → k < length points → Rises k → Rises j
+  all_rise j zero h l up = subst (λ i. Rises i) (sym zero_is) up where
+    zero_is : j ≡ 0
+    zero_is = omega (arith, h)
+  all_rise j (suc k) h l up = elim (cases_lt j (suc k)) [
+    | inl m ↦ all_rise j k (omega (arith, m)) (omega (arith, l)) (rises_before k l up)
+    | inr m ↦ (let e : suc k ≡ j = omega (arith, h, m) in subst (λ i. Rises i) e up)
+  ]
+
+  -- after a rising step at a later place all is higher than after an earlier one
+  climb : (j k : ℕ) → j < k → k < length points → Rises k → rk (round (suc j)) ≤ℤ rk (round k)
+  climb j zero h l up = absurd (omega (arith, h))
+  climb j (suc k) h l up = elim (cases_lt j k) [
+    | inl m ↦ (let a = climb j k m (omega (arith, l)) (rises_before k l up) in let b : Rises k = rises_before k l up in omega (arith, linear))
+    | inr m ↦ (let e : k ≡ j = omega (arith, h, m) in subst (λ i. rk (round (suc j)) ≤ℤ rk (round (suc i))) (sym e) (omega (arith, linear)))
+  ]
+
+  falls_after : (j k : ℕ) → j ≤ k → k < length points → Falls j → Falls k
+  falls_after j k h l down = by_lt_z (rk (round (suc k))) (rk (round k)) (λ m. m) (λ m. absurd (both_ways (all_rise j k h l (rise m)))) where
+    rise : rk (round k) ≤ℤ rk (round (suc k)) → Rises k
+    rise m = by_lt_z (rk (round k)) (rk (round (suc k))) (λ o. o) (λ o. absurd (step_apart (round k) (round_below k) (omega (arith, linear))))
+
+    both_ways : Rises j → ⊥
+    both_ways u = omega (arith, linear)
+
+  sink : (j k : ℕ) → j < k → k < length points → Falls j → rk (round k) ≤ℤ rk (round (suc j))
+  sink j zero h l down = absurd (omega (arith, h))
+  sink j (suc k) h l down = elim (cases_lt j k) [
+    | inl m ↦ (let a = sink j k m (omega (arith, l)) down in let b : Falls k = falls_after j k (omega (arith, m)) (omega (arith, l)) down in omega (arith, linear))
+    | inr m ↦ (let e : k ≡ j = omega (arith, h, m) in subst (λ i. rk (round (suc i)) ≤ℤ rk (round (suc j))) (sym e) (omega (arith, linear)))
+  ]
+
+  abbrev P : ℕ → Pt
+  P k = point_at points (round k)
+
+  -- a point of the edge at a that is strictly inside the edge at b puts both ends of this one on the line of the other
+  on_line : (a b : ℕ) (s t x y : ℕ) → s + t ≡ x + y → mix s (P a) t (P (suc a)) ≡ mix x (P b) y (P (suc b)) → 0 < x → 0 < y
+      → (turn (P a) (P (suc a)) (P b) ≡ pos 0) × (turn (P a) (P (suc a)) (P (suc b)) ≡ pos 0)
+  on_line a b s t x y e m h k =
+      let f = turn_mixed (P a) (P (suc a)) (P a) (P (suc a)) (pos s) (pos t) in
+      let g = turn_mixed (P a) (P (suc a)) (P b) (P (suc b)) (pos x) (pos y) in
+      let c = ap (λ (q : Pt). cross (minus (P (suc a)) (P a)) q) m in
+      let d : pos s +ℤ pos t ≡ pos x +ℤ pos y = omega (arith, ints) in
+      let o = ap (λ z. z *ℤ cross (minus (P (suc a)) (P a)) (P a)) d in
+      let u = ap (λ z. pos s *ℤ z) (turn-first (P a) (P (suc a))) ∙ *ℤ-zero (pos s) in
+      let v = ap (λ z. pos t *ℤ z) (turn-last (P a) (P (suc a))) ∙ *ℤ-zero (pos t) in
+      let l = ring.left (round a) (round b) (round_below a) (round_below b) in
+      let r = ring.left (round a) (round (suc b)) (round_below a) (round_below (suc b)) in
+      none (turn (P a) (P (suc a)) (P b)) (turn (P a) (P (suc a)) (P (suc b))) (pos x) (pos y) l r (omega (arith, ints, h)) (omega (arith, ints, k)) (omega (arith, linear))
+
+  crossing : (a b : ℕ) → a < length points → b < length points → a ≢ b → (s t x y : ℕ) → s + t ≡ x + y → mix s (P a) t (P (suc a)) ≡ mix x (P b) y (P (suc b)) → 0 < x → 0 < y → ⊥
+  crossing a b al bl d s t x y e m h k = by_sign (rank (minus (P (suc a)) (P a))) down (λ z. step_apart (round a) (round_below a) (let q = rank-minus (P a) (P (suc a)) in omega (arith, linear))) up where
+    line : (turn (P a) (P (suc a)) (P b) ≡ pos 0) × (turn (P a) (P (suc a)) (P (suc b)) ≡ pos 0)
+    line = on_line a b s t x y e m h k
+
+    first : rank (minus (P (suc a)) (P a)) ≡ rk (round (suc a)) -ℤ rk (round a)
+    first = rank-minus (P a) (P (suc a))
+
+    second : rank (minus (P (suc b)) (P b)) ≡ rk (round (suc b)) -ℤ rk (round b)
+    second = rank-minus (P b) (P (suc b))
+
+    same_way : GoesAlong (minus (P (suc a)) (P a)) (minus (P (suc b)) (P b))
+    same_way =
+        let o = ring.wide (round a) (round_below a) in
+        let f = turn-step (P a) (P (suc a)) (P b) (P (suc b)) in
+        let g = turn-step (P a) (P (suc a)) (P b) (point_at points o.0) in
+        let z = line.0 in let v = line.1 in let l = o.2 in
+        goes_along (minus (P (suc a)) (P a)) (minus (P (suc b)) (P b)) (minus (point_at points o.0) (P b)) (omega (arith, linear)) (omega (arith, linear)) (ring.left (round b) o.0 (round_below b) o.1)
+        (λ n. step_apart (round b) (round_below b) (let q = second in omega (arith, linear)))
+
+    means : pos s *ℤ rk (round a) +ℤ pos t *ℤ rk (round (suc a)) ≡ pos x *ℤ rk (round b) +ℤ pos y *ℤ rk (round (suc b))
+    means = rank_mixed (P a) (P (suc a)) (pos s) (pos t) ∙ (ap (λ (q : Pt). rank q) m ∙ sym (rank_mixed (P b) (P (suc b)) (pos x) (pos y)))
+
+    sums : pos s +ℤ pos t ≡ pos x +ℤ pos y
+    sums = omega (arith, ints, e)
+
+    which : (a < b) ⊎ (b < a)
+    which = elim (cases_lt a b) [ inl l ↦ inl l | inr l ↦ inr (grind (arith, l, d)) ]
+
+    up : pos 0 <ℤ rank (minus (P (suc a)) (P a)) → ⊥
+    up p = by which where
+      rises_a : Rises a
+      rises_a = let q = first in omega (arith, linear)
+
+      rises_b : Rises b
+      rises_b = let q = second in let g = same_way.up p in omega (arith, linear)
+
+      by : (a < b) ⊎ (b < a) → ⊥
+      by (inl l) = before (pos s) (pos t) (pos x) (pos y) (rk (round a)) (rk (round (suc a))) (rk (round b)) (rk (round (suc b))) sums (omega (arith, ints)) (omega (arith, ints)) (omega (arith, ints, k)) rises_a (climb a b l bl rises_b) rises_b means
+      by (inr l) = after (pos s) (pos t) (pos x) (pos y) (rk (round a)) (rk (round (suc a))) (rk (round b)) (rk (round (suc b))) sums (omega (arith, ints)) (omega (arith, ints)) (omega (arith, ints, h)) rises_a (climb b a l al rises_a) rises_b means
+
+    down : rank (minus (P (suc a)) (P a)) <ℤ pos 0 → ⊥
+    down p = by which where
+      falls_a : Falls a
+      falls_a = let q = first in omega (arith, linear)
+
+      falls_b : Falls b
+      falls_b = let q = second in let g = same_way.down p in omega (arith, linear)
+
+      turned : pos s *ℤ neg_ℤ (rk (round a)) +ℤ pos t *ℤ neg_ℤ (rk (round (suc a))) ≡ pos x *ℤ neg_ℤ (rk (round b)) +ℤ pos y *ℤ neg_ℤ (rk (round (suc b)))
+      turned = negated (pos s) (pos t) (pos x) (pos y) (rk (round a)) (rk (round (suc a))) (rk (round b)) (rk (round (suc b))) means
+
+      flip : (m n : ℤ) → m <ℤ n → neg_ℤ n <ℤ neg_ℤ m
+      flip m n l = omega (arith, linear)
+
+      flip_le : (m n : ℤ) → m ≤ℤ n → neg_ℤ n ≤ℤ neg_ℤ m
+      flip_le m n l = omega (arith, linear)
+
+      by : (a < b) ⊎ (b < a) → ⊥
+      by (inl l) = before (pos s) (pos t) (pos x) (pos y) (neg_ℤ (rk (round a))) (neg_ℤ (rk (round (suc a)))) (neg_ℤ (rk (round b))) (neg_ℤ (rk (round (suc b)))) sums (omega (arith, ints)) (omega (arith, ints)) (omega (arith, ints, k))
+          (flip _ _ falls_a) (flip_le _ _ (sink a b l bl falls_a)) (flip _ _ falls_b) turned
+      by (inr l) = after (pos s) (pos t) (pos x) (pos y) (neg_ℤ (rk (round a))) (neg_ℤ (rk (round (suc a)))) (neg_ℤ (rk (round b))) (neg_ℤ (rk (round (suc b)))) sums (omega (arith, ints)) (omega (arith, ints)) (omega (arith, ints, h))
+          (flip _ _ falls_a) (flip_le _ _ (sink b a l al falls_b)) (flip _ _ falls_b) turned
+
+  -- so of two different edges no point inside one is a point of the other
+  pub inside_alone : (i j : ℕ) → i < length points → j < length points → i ≢ j → (s t x y : ℕ) → s + t ≡ x + y
+      → mix s (point_at points i) t (point_at points (next (length points) i)) ≡ mix x (point_at points j) y (point_at points (next (length points) j)) → 0 < x → 0 < y → ⊥
+  inside_alone i j h k d s t x y e m f g = by (walk-to (length points) start.0 i start.1 h) (walk-to (length points) start.0 j start.1 k) where
+    by : (a : ℕ) × (a < length points) × (round a ≡ i) → (b : ℕ) × (b < length points) × (round b ≡ j) → ⊥
+    by (a, al, p) (b, bl, q) = crossing a b al bl (λ z. d (sym p ∙ (ap round z ∙ q))) s t x y e
+        (subst (λ u. mix s (point_at points u) t (point_at points (next (length points) u)) ≡ mix x (P b) y (P (suc b))) (sym p)
+        (subst (λ v. mix s (point_at points i) t (point_at points (next (length points) i)) ≡ mix x (point_at points v) y (point_at points (next (length points) v))) (sym q) m)) f g
