@@ -105,7 +105,7 @@ abbrev pub both_ways : (ℕ → ℕ → Bool) → List EdgeEnds → Bool
 both_ways p [] = true
 both_ways p (e ∷ edges) = (p e.a e.b && p e.b e.a) && both_ways p edges
 
-joins_is : (e : EdgeEnds) (u v : ℕ) → IsTrue (joins u v e) → ((e.a ≡ u) × (e.b ≡ v)) ⊎ ((e.a ≡ v) × (e.b ≡ u))
+pub joins_is : (e : EdgeEnds) (u v : ℕ) → IsTrue (joins u v e) → ((e.a ≡ u) × (e.b ≡ v)) ⊎ ((e.a ≡ v) × (e.b ≡ u))
 joins_is e u v t = elim (either (e.a == u && e.b == v) (e.a == v && e.b == u) t) [
   | inl h ↦ let b = both (e.a == u) (e.b == v) h in inl (eqb-true _ _ b.0, eqb-true _ _ b.1)
   | inr h ↦ let b = both (e.a == v) (e.b == u) h in inr (eqb-true _ _ b.0, eqb-true _ _ b.1)
@@ -185,10 +185,10 @@ area_sweeps points first u (v ∷ rest) steps last = sum_nonpos (sweep points u 
       shift : (i : ℕ) → suc i + 1 ≡ suc (i + 1)
       shift i = omega arith
 
-next_inner : (n i : ℕ) → i + 1 < n → next n i ≡ i + 1
+pub next_inner : (n i : ℕ) → i + 1 < n → next n i ≡ i + 1
 next_inner n i h = ap (λ b. if b then i + 1 else 0) (lt-ltb (i + 1) n h)
 
-next_last : (n : ℕ) → next (suc n) n ≡ 0
+pub next_last : (n : ℕ) → next (suc n) n ≡ 0
 next_last n = ap (λ b. if b then n + 1 else 0) (le-ltb (n + 1) (suc n) (omega arith))
 
 -- a closed walk along edges that sweep clockwise has no positive area

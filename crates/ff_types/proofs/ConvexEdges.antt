@@ -106,7 +106,7 @@ negated s t x y p q m n e =
     let b = solve (x ∷ y ∷ m ∷ n ∷ []) (var 0 ⊗ opp (var 2) ⊕ var 1 ⊗ opp (var 3)) (opp (var 0 ⊗ var 2 ⊕ var 1 ⊗ var 3)) refl in
     a ∙ (ap neg_ℤ e ∙ sym b)
 
-turn-last : (p q : Pt) → turn p q q ≡ pos 0
+pub turn-last : (p q : Pt) → turn p q q ≡ pos 0
 turn-last p q = solve (p.x ∷ p.y ∷ q.x ∷ q.y ∷ []) ((var 2 ⊖ var 0) ⊗ (var 3 ⊖ var 1) ⊖ (var 3 ⊖ var 1) ⊗ (var 2 ⊖ var 0)) (num (pos 0)) refl
 
 -- a mean of two numbers that aren't negative is 0 where both are

@@ -20,3 +20,4 @@ mod DegenerateTests
 pub mod PairOrder
 pub mod Starts
 pub mod ConvexEdges
+pub mod PlainSheets
