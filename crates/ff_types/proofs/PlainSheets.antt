@@ -3,6 +3,7 @@
 use Rattle.std.proofs.Common.{◌≡◌, ◌≢◌, ℕ, zero, suc, ◌+◌, ◌-◌, ◌<◌, ◌≤◌, ◌==◌, ◌⊎◌, inl, inr, refl, sym, ◌∙◌, ap, subst, arith, lit<, ℤ, pos, ◌+ℤ◌, ◌-ℤ◌, ◌*ℤ◌, ◌<ℤ◌, ◌≤ℤ◌, Bool, true, false, ◌&&◌, ◌||◌, IsTrue, List, [], ◌∷◌, map, length, Some, None, nat_lt}
 use Rattle.std.specs.Prelude.{neg_ℤ, slice_index_or}
 use lib.IntN.{*ℤ-zero}
+use Rattle.ff_whole.proofs.Laws.{one-*ℤ}
 use Rattle.std.specs.List.{All, range_with_len}
 use Rattle.std.proofs.lemmas.Int.{ints}
 use Rattle.std.proofs.lemmas.Bool.{false≢true, eqb-true}
@@ -214,3 +215,105 @@ module _ (points : List Pt) (edges : List EdgeEnds) (near : All IsNear points) (
       (subst (λ k. pos 0 <ℤ (pos s *ℤ left_of points e (first_point points k) +ℤ pos t *ℤ left_of points e (last_point points k))) (edge_is e h)
       ((subst (λ r. IsMixStrictlyIn r s (first_point points (edge_at edges e)) t (last_point points (edge_at edges e))) (corners_are points) p) e (below_n e h)));
   }
+
+  -- ---- which is its one face
+
+  abbrev rings : List (List ℕ)
+  rings = whole n ∷ []
+
+  only : (f : ℕ) → f < 1 → f ≡ 0
+  only f h = omega (arith, h)
+
+  the_ring : (f : ℕ) → f < 1 → ring_at rings f ≡ whole n
+  the_ring f h = ap (λ k. ring_at rings k) (only f h)
+
+  belongs : (e : ℕ) → e < n → Belongs rings e (next n e)
+  belongs e h = (0, lit< tt, goes_whole n e h)
+
+  not_back : (e : ℕ) → e < n → Belongs rings (next n e) e → ⊥
+  not_back e h (f, l, g) = next_back n e enough h (sym (goes_next n (next n e) e (subst (λ r. Goes r (next n e) e) (the_ring f l) g)).1)
+
+  -- an outer directed edge is an edge turned round
+  outer_is : (u v : ℕ) → IsOuter edges rings u v → (v < n) × (u ≡ next n v)
+  outer_is u v o = by (some_joins edges u v o.edge) where
+    by : (e : ℕ) × (e < length edges) × IsTrue (joins u v (edge_at edges e)) → (v < n) × (u ≡ next n v)
+    by (e, h, t) = elim (joins_is (step e) u v (subst (λ k. IsTrue (joins u v k)) (edge_is e h) t)) [
+      | inl p ↦ absurd (o.none (subst (λ x. Belongs rings x v) p.0 (subst (λ y. Belongs rings e y) p.1 (belongs e (below_n e h)))))
+      | inr p ↦ (subst (λ m. m < n) p.0 (below_n e h), sym p.1 ∙ ap (next n) p.0)
+    ]
+
+  leaves : (u v w : ℕ) → IsOuter edges rings u v → IsOuter edges rings u w → v ≡ w
+  leaves u v w a b = let p = outer_is u v a in let q = outer_is u w b in next_once n v w p.0 q.0 (sym p.1 ∙ q.1)
+
+  outer_sweeps : (u v : ℕ) → IsOuter edges rings u v → sweep points (point_at points 0) u v ≤ℤ pos 0
+  outer_sweeps u v o =
+      let p = outer_is u v o in
+      let e = turned_round (point_at points v) (point_at points (next n v)) (point_at points 0) in
+      let l = ring.left v 0 p.0 (omega (arith, enough)) in
+      subst (λ x. sweep points (point_at points 0) x v ≤ℤ pos 0) (sym p.1) (let z : sweep points (point_at points 0) (next n v) v ≤ℤ pos 0 = omega (arith, linear) in z)
+
+  no_hole : (walk : List ℕ) → IsOuterWalk edges rings walk → area points walk ≤ℤ pos 0
+  no_hole walk w = no_area points (point_at points 0) walk (λ i h. outer_sweeps (corner walk i) (after walk i) (w.steps i h))
+
+  module _ (marks : List Mark) (marked : length marks ≡ n) (border : (e : ℕ) → e < n → mark_at marks e ≡ B) where
+    fit : (e : ℕ) → e < length edges → FitsMark rings (edge_at edges e) (mark_at marks e)
+    fit e h = subst (λ k. FitsMark rings k (mark_at marks e)) (sym (edge_is e h)) (subst (λ m. FitsMark rings (step e) m) (sym (border e (below_n e h))) (inl (belongs e (below_n e h), not_back e (below_n e h))))
+
+    -- Its rings are the one of all vertices.
+    pub plain_rings : AreRings points edges (Some marks) (whole (length points) ∷ [])
+    plain_rings = record {
+      each = λ f h. subst (λ r. IsRing points edges r) (sym (the_ring f h)) whole_ring;
+      one = λ f g u v h l a b. only f h ∙ sym (only g l);
+      fit = fit;
+      chained = λ f g h l. ([], only f h ∙ sym (only g l));
+      leaves = leaves;
+      no_hole = no_hole;
+      least = λ f i h. subst (λ r. i < length r → corner r 0 ≤ corner r i) (sym (the_ring f h)) (λ l. subst (λ k. k ≤ corner (whole n) i) (sym (corner_is n 0 (omega (arith, enough)))) (omega arith));
+      sorted = λ f g h l. absurd (omega (arith, h, l));
+    }
+
+    module _ (sides : List EdgeSides) (sided : length sides ≡ n) (inward : (e : ℕ) → e < n → sides_at sides e ≡ record { left = Some 0; right = None }) where
+      sides_are : (e : ℕ) → e < length edges → AreSides rings (edge_at edges e) (sides_at sides e)
+      sides_are e h = subst (λ k. AreSides rings k (sides_at sides e)) (sym (edge_is e h)) (subst (λ s. AreSides rings (step e) s) (sym (inward e (below_n e h))) (record { left = (lit< tt, goes_whole n e (below_n e h)); right = not_back e (below_n e h) }))
+
+      -- Face 0 lies left of each edge, and nothing right of it.
+      pub plain_faces : AreFaces points edges (Some marks) (whole (length points) ∷ []) sides marks
+      plain_faces = record {
+        rings_are = plain_rings;
+        as_many_sides = sided ∙ sym cycle.as_many;
+        sides_are = sides_are;
+        as_many_marks = marked ∙ sym cycle.as_many;
+        marks_are = λ e h. refl;
+      }
+
+      same_product : (z : ℤ) → z ≡ (pos 1 *ℤ pos 1) *ℤ z
+      same_product z = sym (one-*ℤ z)
+
+      same_shape : (p q r : Pt) → KeepsShape (pos 1) true p q r p q r
+      same_shape p q r = record { dots = same_product _; crosses = same_product _ }
+
+      same_ring : (up : Bool) (r : List Pt) → up ≡ true → RingKeepsShape (pos 1) up r r
+      same_ring up r e i j k a b c = subst (λ b. KeepsShape (pos 1) b (point_at r i) (point_at r j) (point_at r k) (point_at r i) (point_at r j) (point_at r k)) (sym e) (same_shape (point_at r i) (point_at r j) (point_at r k))
+
+      no_right : (e f g : ℕ) → e < length sides → (sides_at sides e).left ≡ Some f → (sides_at sides e).right ≡ Some g → FitFlags (mark_at marks e) (is_up (true ∷ []) f) (is_up (true ∷ []) g)
+      no_right e f g h a b = absurd (none_is g (sym (ap (λ s. s.right) (inward e (subst (λ m. e < m) sided h))) ∙ b)) where
+        none_is : (g : ℕ) → None ≡ Some g → ⊥
+        none_is g e = cc
+
+      scaled_once : (p : Pt) → p ≡ scaled (pos 1) p
+      scaled_once p = points_are p.x p.y _ _ (sym (one-*ℤ p.x)) (sym (one-*ℤ p.y)) where
+        points_are : (a b c d : ℤ) → a ≡ c → b ≡ d → ◌≡◌ {A = Pt} (record { x = a; y = b }) (record { x = c; y = d })
+        points_are a b c d e f = ap (λ x. record { x = x; y = b }) e ∙ ap (λ y. record { x = c; y = y }) f
+
+      -- It lies as it was drawn.
+      pub plain_folding : IsFolding points (whole (length points) ∷ []) sides marks (pos 1) points (true ∷ [])
+      plain_folding = record {
+        positive = omega (arith, ints);
+        as_many_points = refl;
+        as_many_flags = refl;
+        first_up = refl;
+        first_stays = λ i h. scaled_once _;
+        shapes = λ f h. same_ring (is_up (true ∷ []) f) (corners points (ring_at rings f)) (ap (λ k. is_up (true ∷ []) k) (only f h));
+        flags = no_right;
+        least = least_one points;
+      }
