@@ -1,12 +1,12 @@
 -- The edges of a convex ring of different points meet only where one ends and the next begins. Going round from the first
 -- point in the order of x and then of y, that order rises and then falls; and edges on one line go in one direction.
 use Rattle.std.proofs.Common.{◌≡◌, ◌≢◌, ℕ, zero, suc, ◌+◌, ◌-◌, ◌<◌, ◌≤◌, ◌⊎◌, inl, inr, refl, sym, ◌∙◌, ap, subst, arith, ℤ, pos, ◌+ℤ◌, ◌-ℤ◌, ◌*ℤ◌, ◌<ℤ◌, ◌≤ℤ◌, List, [], ◌∷◌, length}
-use Rattle.std.specs.Prelude.{neg_ℤ}
+use Rattle.std.specs.Prelude.{neg_ℤ, nat_lt, if◌then◌else◌}
 use lib.IntN.{*ℤ_comm, *ℤ-zero, zero-*ℤ}
 use Rattle.std.specs.List.{All}
 use Rattle.std.proofs.lemmas.Int.{ints, by_lt_z}
 use Rattle.std.proofs.lemmas.Bool.{cases_lt}
-use Rattle.std.proofs.lemmas.Bool.Decides.{eqb_tells}
+use Rattle.std.proofs.lemmas.Bool.Decides.{nat_tests}
 use Rattle.ff_whole.specs.declared.points.Pt.{Pt}
 use Rattle.ff_whole.specs.declared.sizes.TheConstants.{POINT_SIZE}
 use Rattle.ff_whole.specs.Points.{minus, cross, turn, mix, IsNear, origin}
@@ -115,6 +115,60 @@ none a b x y f g h k e = (
   by_sign a (λ l. absurd (omega (arith, linear))) (λ z. z) (λ l. let u = pos-mul x a h l in let v = nonneg-mul y b (omega (arith, linear)) g in absurd (omega (arith, linear))),
   by_sign b (λ l. absurd (omega (arith, linear))) (λ z. z) (λ l. let u = pos-mul y b k l in let v = nonneg-mul x a (omega (arith, linear)) f in absurd (omega (arith, linear))),
 )
+
+-- ---- where corners stand on the walk from a place s
+
+abbrev place : ℕ → ℕ → ℕ → ℕ
+place n s k = if nat_lt (s + k) n then s + k else s + k - n
+
+next_place : (n s k : ℕ) → s < n → k < n → next n (place n s k) ≡ place n s (suc k)
+next_place n s k h l = grind (arith, nat_tests)
+
+walk_place : (n s k : ℕ) → s < n → k ≤ n → walk n s k ≡ place n s k
+walk_place n s zero h l = grind (arith, nat_tests)
+walk_place n s (suc k) h l = ap (next n) (walk_place n s k h (omega arith)) ∙ next_place n s k h (omega arith)
+
+walk_at : (n s k i : ℕ) → s < n → k < n → i < n → (s + k ≡ i) ⊎ (s + k ≡ i + n) → walk n s k ≡ i
+walk_at n s k i h l m (inl e) = walk_place n s k h (omega (arith, l)) ∙ grind (arith, nat_tests, e, m)
+walk_at n s k i h l m (inr e) = walk_place n s k h (omega (arith, l)) ∙ grind (arith, nat_tests, e, m)
+
+-- of four corners in this order, the walk meets the last three in this order, or the last, the first and the second
+wave_places : (n s p o q r a b c d : ℕ) → s < n → p < o → o < q → q < r → r < n → a < n → b < n → c < n → d < n → (s + a ≡ p) ⊎ (s + a ≡ p + n) → (s + b ≡ o) ⊎ (s + b ≡ o + n) → (s + c ≡ q) ⊎ (s + c ≡ q + n) → (s + d ≡ r) ⊎ (s + d ≡ r + n) → ((b < c) × (c < d)) ⊎ ((d < a) × (a < b))
+wave_places n s p o q r a b c d i h k l m e f g j (inl t) (inl u) (inl v) (inl w) = inl (omega (arith, i, h, k, l, m, e, f, g, j, t, u, v, w), omega (arith, i, h, k, l, m, e, f, g, j, t, u, v, w))
+wave_places n s p o q r a b c d i h k l m e f g j (inl t) (inl u) (inl v) (inr w) = absurd (omega (arith, i, h, k, l, m, e, f, g, j, t, u, v, w))
+wave_places n s p o q r a b c d i h k l m e f g j (inl t) (inl u) (inr v) (inl w) = absurd (omega (arith, i, h, k, l, m, e, f, g, j, t, u, v, w))
+wave_places n s p o q r a b c d i h k l m e f g j (inl t) (inl u) (inr v) (inr w) = absurd (omega (arith, i, h, k, l, m, e, f, g, j, t, u, v, w))
+wave_places n s p o q r a b c d i h k l m e f g j (inl t) (inr u) (inl v) (inl w) = absurd (omega (arith, i, h, k, l, m, e, f, g, j, t, u, v, w))
+wave_places n s p o q r a b c d i h k l m e f g j (inl t) (inr u) (inl v) (inr w) = absurd (omega (arith, i, h, k, l, m, e, f, g, j, t, u, v, w))
+wave_places n s p o q r a b c d i h k l m e f g j (inl t) (inr u) (inr v) (inl w) = absurd (omega (arith, i, h, k, l, m, e, f, g, j, t, u, v, w))
+wave_places n s p o q r a b c d i h k l m e f g j (inl t) (inr u) (inr v) (inr w) = absurd (omega (arith, i, h, k, l, m, e, f, g, j, t, u, v, w))
+wave_places n s p o q r a b c d i h k l m e f g j (inr t) (inl u) (inl v) (inl w) = inl (omega (arith, i, h, k, l, m, e, f, g, j, t, u, v, w), omega (arith, i, h, k, l, m, e, f, g, j, t, u, v, w))
+wave_places n s p o q r a b c d i h k l m e f g j (inr t) (inl u) (inl v) (inr w) = absurd (omega (arith, i, h, k, l, m, e, f, g, j, t, u, v, w))
+wave_places n s p o q r a b c d i h k l m e f g j (inr t) (inl u) (inr v) (inl w) = absurd (omega (arith, i, h, k, l, m, e, f, g, j, t, u, v, w))
+wave_places n s p o q r a b c d i h k l m e f g j (inr t) (inl u) (inr v) (inr w) = absurd (omega (arith, i, h, k, l, m, e, f, g, j, t, u, v, w))
+wave_places n s p o q r a b c d i h k l m e f g j (inr t) (inr u) (inl v) (inl w) = inr (omega (arith, i, h, k, l, m, e, f, g, j, t, u, v, w), omega (arith, i, h, k, l, m, e, f, g, j, t, u, v, w))
+wave_places n s p o q r a b c d i h k l m e f g j (inr t) (inr u) (inl v) (inr w) = absurd (omega (arith, i, h, k, l, m, e, f, g, j, t, u, v, w))
+wave_places n s p o q r a b c d i h k l m e f g j (inr t) (inr u) (inr v) (inl w) = inr (omega (arith, i, h, k, l, m, e, f, g, j, t, u, v, w), omega (arith, i, h, k, l, m, e, f, g, j, t, u, v, w))
+wave_places n s p o q r a b c d i h k l m e f g j (inr t) (inr u) (inr v) (inr w) = inl (omega (arith, i, h, k, l, m, e, f, g, j, t, u, v, w), omega (arith, i, h, k, l, m, e, f, g, j, t, u, v, w))
+
+-- or the first three, or the last two and the first
+trough_places : (n s p o q r a b c d : ℕ) → s < n → p < o → o < q → q < r → r < n → a < n → b < n → c < n → d < n → (s + a ≡ p) ⊎ (s + a ≡ p + n) → (s + b ≡ o) ⊎ (s + b ≡ o + n) → (s + c ≡ q) ⊎ (s + c ≡ q + n) → (s + d ≡ r) ⊎ (s + d ≡ r + n) → ((a < b) × (b < c)) ⊎ ((c < d) × (d < a))
+trough_places n s p o q r a b c d i h k l m e f g j (inl t) (inl u) (inl v) (inl w) = inl (omega (arith, i, h, k, l, m, e, f, g, j, t, u, v, w), omega (arith, i, h, k, l, m, e, f, g, j, t, u, v, w))
+trough_places n s p o q r a b c d i h k l m e f g j (inl t) (inl u) (inl v) (inr w) = absurd (omega (arith, i, h, k, l, m, e, f, g, j, t, u, v, w))
+trough_places n s p o q r a b c d i h k l m e f g j (inl t) (inl u) (inr v) (inl w) = absurd (omega (arith, i, h, k, l, m, e, f, g, j, t, u, v, w))
+trough_places n s p o q r a b c d i h k l m e f g j (inl t) (inl u) (inr v) (inr w) = absurd (omega (arith, i, h, k, l, m, e, f, g, j, t, u, v, w))
+trough_places n s p o q r a b c d i h k l m e f g j (inl t) (inr u) (inl v) (inl w) = absurd (omega (arith, i, h, k, l, m, e, f, g, j, t, u, v, w))
+trough_places n s p o q r a b c d i h k l m e f g j (inl t) (inr u) (inl v) (inr w) = absurd (omega (arith, i, h, k, l, m, e, f, g, j, t, u, v, w))
+trough_places n s p o q r a b c d i h k l m e f g j (inl t) (inr u) (inr v) (inl w) = absurd (omega (arith, i, h, k, l, m, e, f, g, j, t, u, v, w))
+trough_places n s p o q r a b c d i h k l m e f g j (inl t) (inr u) (inr v) (inr w) = absurd (omega (arith, i, h, k, l, m, e, f, g, j, t, u, v, w))
+trough_places n s p o q r a b c d i h k l m e f g j (inr t) (inl u) (inl v) (inl w) = inr (omega (arith, i, h, k, l, m, e, f, g, j, t, u, v, w), omega (arith, i, h, k, l, m, e, f, g, j, t, u, v, w))
+trough_places n s p o q r a b c d i h k l m e f g j (inr t) (inl u) (inl v) (inr w) = absurd (omega (arith, i, h, k, l, m, e, f, g, j, t, u, v, w))
+trough_places n s p o q r a b c d i h k l m e f g j (inr t) (inl u) (inr v) (inl w) = absurd (omega (arith, i, h, k, l, m, e, f, g, j, t, u, v, w))
+trough_places n s p o q r a b c d i h k l m e f g j (inr t) (inl u) (inr v) (inr w) = absurd (omega (arith, i, h, k, l, m, e, f, g, j, t, u, v, w))
+trough_places n s p o q r a b c d i h k l m e f g j (inr t) (inr u) (inl v) (inl w) = inr (omega (arith, i, h, k, l, m, e, f, g, j, t, u, v, w), omega (arith, i, h, k, l, m, e, f, g, j, t, u, v, w))
+trough_places n s p o q r a b c d i h k l m e f g j (inr t) (inr u) (inl v) (inr w) = absurd (omega (arith, i, h, k, l, m, e, f, g, j, t, u, v, w))
+trough_places n s p o q r a b c d i h k l m e f g j (inr t) (inr u) (inr v) (inl w) = inl (omega (arith, i, h, k, l, m, e, f, g, j, t, u, v, w), omega (arith, i, h, k, l, m, e, f, g, j, t, u, v, w))
+trough_places n s p o q r a b c d i h k l m e f g j (inr t) (inr u) (inr v) (inr w) = inl (omega (arith, i, h, k, l, m, e, f, g, j, t, u, v, w), omega (arith, i, h, k, l, m, e, f, g, j, t, u, v, w))
 
 -- ---- round a convex ring
 
@@ -274,3 +328,110 @@ module _ (points : List Pt) (near : All IsNear points) (apart : AreApart points)
     by (a, al, p) (b, bl, q) = crossing a b al bl (λ z. d (sym p ∙ (ap round z ∙ q))) s t x y e
         (subst (λ u. mix s (point_at points u) t (point_at points (next (length points) u)) ≡ mix x (P b) y (P (suc b))) (sym p)
         (subst (λ v. mix s (point_at points i) t (point_at points (next (length points) i)) ≡ mix x (point_at points v) y (point_at points (next (length points) v))) (sym q) m)) f g
+
+  -- ---- between two places the order falls below neither
+
+  high_between : (a b c : ℕ) → a < b → b < c → c < length points → (rk (round a) <ℤ rk (round b)) ⊎ (rk (round c) <ℤ rk (round b))
+  high_between a b c h k l = by_lt_z (rk (round b)) (rk (round (suc b))) (λ up. inl (rising up)) (λ m. inr (falling (fall m))) where
+    rising : Rises b → rk (round a) <ℤ rk (round b)
+    rising up = let f : Rises a = all_rise a b (omega (arith, h)) (omega (arith, k, l)) up in let g = climb a b h (omega (arith, k, l)) up in omega (arith, linear)
+
+    fall : rk (round (suc b)) ≤ℤ rk (round b) → Falls b
+    fall m = by_lt_z (rk (round (suc b))) (rk (round b)) (λ o. o) (λ o. absurd (step_apart (round b) (round_below b) (omega (arith, linear))))
+
+    falling : Falls b → rk (round c) <ℤ rk (round b)
+    falling down = let g = sink b c k l down in omega (arith, linear)
+
+  -- the place of the walk at which a corner stands
+  record Stands (i : ℕ) : Type 0 where
+    at : ℕ
+    inside : at < length points
+    there : (start.0 + at ≡ i) ⊎ (start.0 + at ≡ i + length points)
+
+  stands : (i : ℕ) → i < length points → Stands i
+  stands i h = elim (cases_lt i start.0) [
+    | inl l ↦ record { at = i + length points - start.0; inside = omega (arith, l, start.1); there = inr (omega (arith, l, start.1)) }
+    | inr l ↦ record { at = i - start.0; inside = omega (arith, h, l); there = inl (omega (arith, l)) }
+  ]
+
+  height_of : (i : ℕ) → i < length points → (w : Stands i) → rk (round w.at) ≡ rk i
+  height_of i h w = ap rk (walk_at (length points) start.0 w.at i start.1 w.inside h w.there)
+
+  -- Of corners in this order, the second is above the first, the third below it and the fourth above it: the order would
+  -- rise and fall twice.
+  waves : (p o q r : ℕ) → p < o → o < q → q < r → r < length points → rk p <ℤ rk o → rk q <ℤ rk p → rk p <ℤ rk r → ⊥
+  waves p o q r h k l m x y z = by (wave_places (length points) start.0 p o q r a.at b.at c.at d.at start.1 h k l m a.inside b.inside c.inside d.inside a.there b.there c.there d.there) where
+    a : Stands p
+    a = stands p (omega (arith, h, k, l, m))
+
+    b : Stands o
+    b = stands o (omega (arith, k, l, m))
+
+    c : Stands q
+    c = stands q (omega (arith, l, m))
+
+    d : Stands r
+    d = stands r m
+
+    e : rk (round a.at) ≡ rk p
+    e = height_of p (omega (arith, h, k, l, m)) a
+
+    f : rk (round b.at) ≡ rk o
+    f = height_of o (omega (arith, k, l, m)) b
+
+    g : rk (round c.at) ≡ rk q
+    g = height_of q (omega (arith, l, m)) c
+
+    i : rk (round d.at) ≡ rk r
+    i = height_of r m d
+
+    first : (rk (round b.at) <ℤ rk (round c.at)) ⊎ (rk (round d.at) <ℤ rk (round c.at)) → ⊥
+    first (inl t) = let e' = e in let f' = f in let g' = g in let i' = i in omega (arith, linear)
+    first (inr t) = let e' = e in let f' = f in let g' = g in let i' = i in omega (arith, linear)
+
+    second : (rk (round d.at) <ℤ rk (round a.at)) ⊎ (rk (round b.at) <ℤ rk (round a.at)) → ⊥
+    second (inl t) = let e' = e in let f' = f in let g' = g in let i' = i in omega (arith, linear)
+    second (inr t) = let e' = e in let f' = f in let g' = g in let i' = i in omega (arith, linear)
+
+    by : ((b.at < c.at) × (c.at < d.at)) ⊎ ((d.at < a.at) × (a.at < b.at)) → ⊥
+    by (inl t) = first (high_between b.at c.at d.at t.0 t.1 d.inside)
+    by (inr t) = second (high_between d.at a.at b.at t.0 t.1 b.inside)
+
+  -- the same upside down
+  troughs : (p o q r : ℕ) → p < o → o < q → q < r → r < length points → rk o <ℤ rk p → rk p <ℤ rk q → rk r <ℤ rk p → ⊥
+  troughs p o q r h k l m x y z = by (trough_places (length points) start.0 p o q r a.at b.at c.at d.at start.1 h k l m a.inside b.inside c.inside d.inside a.there b.there c.there d.there) where
+    a : Stands p
+    a = stands p (omega (arith, h, k, l, m))
+
+    b : Stands o
+    b = stands o (omega (arith, k, l, m))
+
+    c : Stands q
+    c = stands q (omega (arith, l, m))
+
+    d : Stands r
+    d = stands r m
+
+    e : rk (round a.at) ≡ rk p
+    e = height_of p (omega (arith, h, k, l, m)) a
+
+    f : rk (round b.at) ≡ rk o
+    f = height_of o (omega (arith, k, l, m)) b
+
+    g : rk (round c.at) ≡ rk q
+    g = height_of q (omega (arith, l, m)) c
+
+    i : rk (round d.at) ≡ rk r
+    i = height_of r m d
+
+    first : (rk (round a.at) <ℤ rk (round b.at)) ⊎ (rk (round c.at) <ℤ rk (round b.at)) → ⊥
+    first (inl t) = let e' = e in let f' = f in let g' = g in let i' = i in omega (arith, linear)
+    first (inr t) = let e' = e in let f' = f in let g' = g in let i' = i in omega (arith, linear)
+
+    second : (rk (round c.at) <ℤ rk (round d.at)) ⊎ (rk (round a.at) <ℤ rk (round d.at)) → ⊥
+    second (inl t) = let e' = e in let f' = f in let g' = g in let i' = i in omega (arith, linear)
+    second (inr t) = let e' = e in let f' = f in let g' = g in let i' = i in omega (arith, linear)
+
+    by : ((a.at < b.at) × (b.at < c.at)) ⊎ ((c.at < d.at) × (d.at < a.at)) → ⊥
+    by (inl t) = first (high_between a.at b.at c.at t.0 t.1 c.inside)
+    by (inr t) = second (high_between c.at d.at a.at t.0 t.1 a.inside)
