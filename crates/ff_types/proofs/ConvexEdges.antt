@@ -109,12 +109,90 @@ negated s t x y p q m n e =
 pub turn-last : (p q : Pt) → turn p q q ≡ pos 0
 turn-last p q = solve (p.x ∷ p.y ∷ q.x ∷ q.y ∷ []) ((var 2 ⊖ var 0) ⊗ (var 3 ⊖ var 1) ⊖ (var 3 ⊖ var 1) ⊗ (var 2 ⊖ var 0)) (num (pos 0)) refl
 
+pub turn_cycled : (p q r : Pt) → turn p q r ≡ turn q r p
+turn_cycled p q r = solve (p.x ∷ p.y ∷ q.x ∷ q.y ∷ r.x ∷ r.y ∷ []) ((var 2 ⊖ var 0) ⊗ (var 5 ⊖ var 1) ⊖ (var 3 ⊖ var 1) ⊗ (var 4 ⊖ var 0)) ((var 4 ⊖ var 2) ⊗ (var 1 ⊖ var 3) ⊖ (var 5 ⊖ var 3) ⊗ (var 0 ⊖ var 2)) refl
+
 -- a mean of two numbers that aren't negative is 0 where both are
 none : (a b x y : ℤ) → pos 0 ≤ℤ a → pos 0 ≤ℤ b → pos 0 <ℤ x → pos 0 <ℤ y → x *ℤ a +ℤ y *ℤ b ≡ pos 0 → (a ≡ pos 0) × (b ≡ pos 0)
 none a b x y f g h k e = (
   by_sign a (λ l. absurd (omega (arith, linear))) (λ z. z) (λ l. let u = pos-mul x a h l in let v = nonneg-mul y b (omega (arith, linear)) g in absurd (omega (arith, linear))),
   by_sign b (λ l. absurd (omega (arith, linear))) (λ z. z) (λ l. let u = pos-mul y b k l in let v = nonneg-mul x a (omega (arith, linear)) f in absurd (omega (arith, linear))),
 )
+
+-- ---- three directions to one side of a fourth
+
+fan_sum : (u b c e : Pt) → cross c e *ℤ cross u b +ℤ cross e b *ℤ cross u c +ℤ cross b c *ℤ cross u e ≡ pos 0
+fan_sum u b c e = solve (u.x ∷ u.y ∷ b.x ∷ b.y ∷ c.x ∷ c.y ∷ e.x ∷ e.y ∷ [])
+    ((var 4 ⊗ var 7 ⊖ var 5 ⊗ var 6) ⊗ (var 0 ⊗ var 3 ⊖ var 1 ⊗ var 2) ⊕ (var 6 ⊗ var 3 ⊖ var 7 ⊗ var 2) ⊗ (var 0 ⊗ var 5 ⊖ var 1 ⊗ var 4) ⊕ (var 2 ⊗ var 5 ⊖ var 3 ⊗ var 4) ⊗ (var 0 ⊗ var 7 ⊖ var 1 ⊗ var 6)) (num (pos 0)) refl
+
+cross_turned : (b e : Pt) → cross e b ≡ neg_ℤ (cross b e)
+cross_turned b e = solve (b.x ∷ b.y ∷ e.x ∷ e.y ∷ []) (var 2 ⊗ var 1 ⊖ var 3 ⊗ var 0) (opp (var 0 ⊗ var 3 ⊖ var 1 ⊗ var 2)) refl
+
+-- what three directions b, c, e on or left of u may be where each is on or left of the one before but e is right of b: c lies
+-- along u and b against it, or c against it and e along
+pub record Folds (u b c e : ℤ) : Type 0 where
+  pub up : pos 0 <ℤ u → ((pos 0 <ℤ c) × (b <ℤ pos 0)) ⊎ ((c <ℤ pos 0) × (pos 0 <ℤ e))
+  pub down : u <ℤ pos 0 → ((c <ℤ pos 0) × (pos 0 <ℤ b)) ⊎ ((pos 0 <ℤ c) × (e <ℤ pos 0))
+
+-- the same in numbers: x, y, z are the cross products of b and c, c and e, e and b; v, w those of u with b and e
+folds : (u b c e v w x y z : ℤ) → u *ℤ x ≡ neg_ℤ (c *ℤ v) → u *ℤ y ≡ c *ℤ w → u *ℤ z ≡ e *ℤ v -ℤ b *ℤ w → c ≢ pos 0 → pos 0 ≤ℤ v → pos 0 ≤ℤ w → pos 0 ≤ℤ x → pos 0 ≤ℤ y → pos 0 <ℤ z → Folds u b c e
+folds u b c e v w x y z ex ey ez n hv hw hx hy hz = record { up = up; down = down } where
+  up : pos 0 <ℤ u → ((pos 0 <ℤ c) × (b <ℤ pos 0)) ⊎ ((c <ℤ pos 0) × (pos 0 <ℤ e))
+  up p = by_sign c lower (λ q. absurd (n q)) higher where
+    higher : pos 0 <ℤ c → ((pos 0 <ℤ c) × (b <ℤ pos 0)) ⊎ ((c <ℤ pos 0) × (pos 0 <ℤ e))
+    higher q = inl (q, by_lt_z b (pos 0) (λ l. l) (λ l. absurd (clash l))) where
+      v_zero : v ≡ pos 0
+      v_zero = by_sign v (λ l. absurd (omega (arith, linear))) (λ r. r) (λ l. let i = nonneg-mul u x (omega (arith, linear)) hx in let j = pos-mul c v q l in absurd (omega (arith, linear)))
+
+      clash : pos 0 ≤ℤ b → ⊥
+      clash l = let i = pos-mul u z p hz in let j = nonneg-mul b w l hw in let k = ap (λ o. e *ℤ o) v_zero ∙ *ℤ-zero e in omega (arith, linear)
+
+    lower : c <ℤ pos 0 → ((pos 0 <ℤ c) × (b <ℤ pos 0)) ⊎ ((c <ℤ pos 0) × (pos 0 <ℤ e))
+    lower q = inr (q, by_lt_z (pos 0) e (λ l. l) (λ l. absurd (clash l))) where
+      w_zero : w ≡ pos 0
+      w_zero = by_sign w (λ l. absurd (omega (arith, linear))) (λ r. r) (λ l. let i = nonneg-mul u y (omega (arith, linear)) hy in let j = neg-mul_pos c w q l in absurd (omega (arith, linear)))
+
+      clash : e ≤ℤ pos 0 → ⊥
+      clash l = let i = pos-mul u z p hz in let j = nonneg-mul_nonpos v e hv l in let o = *ℤ_comm v e in let k = ap (λ o. b *ℤ o) w_zero ∙ *ℤ-zero b in omega (arith, linear)
+
+  down : u <ℤ pos 0 → ((c <ℤ pos 0) × (pos 0 <ℤ b)) ⊎ ((pos 0 <ℤ c) × (e <ℤ pos 0))
+  down p = by_sign c lower (λ q. absurd (n q)) higher where
+    lower : c <ℤ pos 0 → ((c <ℤ pos 0) × (pos 0 <ℤ b)) ⊎ ((pos 0 <ℤ c) × (e <ℤ pos 0))
+    lower q = inl (q, by_lt_z (pos 0) b (λ l. l) (λ l. absurd (clash l))) where
+      v_zero : v ≡ pos 0
+      v_zero = by_sign v (λ l. absurd (omega (arith, linear))) (λ r. r) (λ l. let i = nonneg-mul_nonpos x u hx (omega (arith, linear)) in let o = *ℤ_comm x u in let j = neg-mul_pos c v q l in absurd (omega (arith, linear)))
+
+      clash : b ≤ℤ pos 0 → ⊥
+      clash l = let i = neg-mul_pos u z p hz in let j = nonneg-mul_nonpos w b hw l in let o = *ℤ_comm w b in let k = ap (λ o. e *ℤ o) v_zero ∙ *ℤ-zero e in omega (arith, linear)
+
+    higher : pos 0 <ℤ c → ((c <ℤ pos 0) × (pos 0 <ℤ b)) ⊎ ((pos 0 <ℤ c) × (e <ℤ pos 0))
+    higher q = inr (q, by_lt_z e (pos 0) (λ l. l) (λ l. absurd (clash l))) where
+      w_zero : w ≡ pos 0
+      w_zero = by_sign w (λ l. absurd (omega (arith, linear))) (λ r. r) (λ l. let i = nonneg-mul_nonpos y u hy (omega (arith, linear)) in let o = *ℤ_comm y u in let j = pos-mul c w q l in absurd (omega (arith, linear)))
+
+      clash : pos 0 ≤ℤ e → ⊥
+      clash l = let i = neg-mul_pos u z p hz in let j = nonneg-mul e v l hv in let k = ap (λ o. b *ℤ o) w_zero ∙ *ℤ-zero b in omega (arith, linear)
+
+fan : (u b c e : Pt) → pos 0 ≤ℤ cross u b → pos 0 ≤ℤ cross u c → pos 0 ≤ℤ cross u e → pos 0 ≤ℤ cross b c → pos 0 ≤ℤ cross c e → cross b e <ℤ pos 0 → rank c ≢ pos 0 → Folds (rank u) (rank b) (rank c) (rank e)
+fan u b c e hb hc he x y z n = folds (rank u) (rank b) (rank c) (rank e) (cross u b) (cross u e) (cross b c) (cross c e) (cross e b) one two three n hb he x y right where
+  right : pos 0 <ℤ cross e b
+  right = let t = cross_turned b e in omega (arith, linear)
+
+  along : cross u c ≡ pos 0
+  along = by_sign (cross u c) (λ l. absurd (omega (arith, linear))) (λ q. q) (λ l.
+      let s = fan_sum u b c e in
+      let i = nonneg-mul (cross c e) (cross u b) y hb in
+      let j = pos-mul (cross e b) (cross u c) right l in
+      let k = nonneg-mul (cross b c) (cross u e) x he in absurd (omega (arith, linear)))
+
+  one : rank u *ℤ cross b c ≡ neg_ℤ (rank c *ℤ cross u b)
+  one = let i = exchange u b c in let k = ap (λ o. rank b *ℤ o) along ∙ *ℤ-zero (rank b) in omega (arith, linear)
+
+  two : rank u *ℤ cross c e ≡ rank c *ℤ cross u e
+  two = let i = exchange u c e in let k = ap (λ o. rank e *ℤ o) along ∙ *ℤ-zero (rank e) in omega (arith, linear)
+
+  three : rank u *ℤ cross e b ≡ rank e *ℤ cross u b -ℤ rank b *ℤ cross u e
+  three = exchange u e b
 
 -- ---- where corners stand on the walk from a place s
 
@@ -435,3 +513,68 @@ module _ (points : List Pt) (near : All IsNear points) (apart : AreApart points)
     by : ((a.at < b.at) × (b.at < c.at)) ⊎ ((c.at < d.at) × (d.at < a.at)) → ⊥
     by (inl t) = first (high_between a.at b.at c.at t.0 t.1 c.inside)
     by (inr t) = second (high_between c.at d.at a.at t.0 t.1 a.inside)
+
+  -- ---- three corners in order turn left, or lie on one line
+
+  abbrev R : ℕ → Pt
+  R i = point_at points i
+
+  turns_from : (p q : ℕ) (k : ℕ) → p < q → suc q + k < length points → pos 0 ≤ℤ turn (R p) (R q) (R (suc q + k))
+  turns_from p q zero h l = subst (λ m. pos 0 ≤ℤ turn (R p) (R q) (R m)) (no_more (suc q)) (cycled (next_inside q (omega (arith, l)))) where
+    no_more : (m : ℕ) → m ≡ m + 0
+    no_more m = omega arith
+
+    next_inside : (m : ℕ) → suc m < length points → next (length points) m ≡ suc m
+    next_inside m l = grind (arith, nat_tests)
+
+    cycled : next (length points) q ≡ suc q → pos 0 ≤ℤ turn (R p) (R q) (R (suc q))
+    cycled e = let a = subst (λ m. pos 0 ≤ℤ turn (R q) (R m) (R p)) e (ring.left q p (omega (arith, l)) (omega (arith, h, l))) in let c = turn_cycled (R p) (R q) (R (suc q)) in omega (arith, linear)
+  turns_from p q (suc k) h l = subst (λ m. pos 0 ≤ℤ turn (R p) (R q) (R m)) (one_more (suc q) k) (step (suc q + k) (omega arith) (omega (arith, l)) (turns_from p q k h (omega (arith, l)))) where
+    one_more : (m k : ℕ) → suc (m + k) ≡ m + suc k
+    one_more m k = omega arith
+
+    next_inside : (m : ℕ) → suc m < length points → next (length points) m ≡ suc m
+    next_inside m l = grind (arith, nat_tests)
+
+    left_of_step : (m o : ℕ) → suc m < length points → o < length points → pos 0 ≤ℤ turn (R m) (R (suc m)) (R o)
+    left_of_step m o f g = subst (λ x. pos 0 ≤ℤ turn (R m) (R x) (R o)) (next_inside m f) (ring.left m o (omega (arith, f)) g)
+
+    apart_ranks : (m o : ℕ) → m < length points → o < length points → m ≢ o → rank (minus (R o) (R m)) ≢ pos 0
+    apart_ranks m o f g d e = d (apart.differ m o f g (rank-same _ _ (near m origin f) (near o origin g) (let i = rank-minus (R m) (R o) in omega (arith, linear))))
+
+    step : (r : ℕ) → q < r → suc r < length points → pos 0 ≤ℤ turn (R p) (R q) (R r) → pos 0 ≤ℤ turn (R p) (R q) (R (suc r))
+    step r qr f t = by_lt_z (turn (R p) (R q) (R (suc r))) (pos 0) (λ m. absurd (no m)) (λ m. m) where
+      no : turn (R p) (R q) (R (suc r)) <ℤ pos 0 → ⊥
+      no m = elim (cases_lt (suc p) q) [
+        | inl o ↦ far o
+        | inr o ↦ (let e : suc p ≡ q = omega (arith, h, o) in let a = subst (λ x. pos 0 ≤ℤ turn (R p) (R x) (R (suc r))) e (left_of_step p (suc r) (omega (arith, h, qr, f)) f) in omega (arith, linear))
+      ] where
+        far : suc p < q → ⊥
+        far o = by_sign (rank (minus (R (suc p)) (R p))) lower (λ z. apart_ranks p (suc p) (omega (arith, o, qr, f)) (omega (arith, o, qr, f)) (λ x. omega (arith, x)) z) higher where
+          around : pos 0 ≤ℤ turn (R p) (R r) (R (suc r))
+          around = let a = left_of_step r p f (omega (arith, h, qr, f)) in let c = turn_cycled (R p) (R r) (R (suc r)) in omega (arith, linear)
+
+          shape : Folds (rank (minus (R (suc p)) (R p))) (rank (minus (R q) (R p))) (rank (minus (R r) (R p))) (rank (minus (R (suc r)) (R p)))
+          shape = fan (minus (R (suc p)) (R p)) (minus (R q) (R p)) (minus (R r) (R p)) (minus (R (suc r)) (R p))
+              (left_of_step p q (omega (arith, o, qr, f)) (omega (arith, qr, f))) (left_of_step p r (omega (arith, o, qr, f)) (omega (arith, f))) (left_of_step p (suc r) (omega (arith, o, qr, f)) f) t around m
+              (apart_ranks p r (omega (arith, h, qr, f)) (omega (arith, f)) (λ x. omega (arith, x, h, qr)))
+
+          gap : (i : ℕ) → rank (minus (R i) (R p)) ≡ rk i -ℤ rk p
+          gap i = rank-minus (R p) (R i)
+
+          higher : pos 0 <ℤ rank (minus (R (suc p)) (R p)) → ⊥
+          higher z = elim (shape.up z) [
+            | inl x ↦ (let a = gap (suc p) in let b = gap q in let c = gap r in let x0 = x.0 in let x1 = x.1 in waves p (suc p) q r (omega arith) o qr (omega (arith, f)) (omega (arith, linear)) (omega (arith, linear)) (omega (arith, linear)))
+            | inr x ↦ (let a = gap (suc p) in let b = gap r in let c = gap (suc r) in let x0 = x.0 in let x1 = x.1 in waves p (suc p) r (suc r) (omega arith) (omega (arith, o, qr)) (omega arith) f (omega (arith, linear)) (omega (arith, linear)) (omega (arith, linear)))
+          ]
+
+          lower : rank (minus (R (suc p)) (R p)) <ℤ pos 0 → ⊥
+          lower z = elim (shape.down z) [
+            | inl x ↦ (let a = gap (suc p) in let b = gap q in let c = gap r in let x0 = x.0 in let x1 = x.1 in troughs p (suc p) q r (omega arith) o qr (omega (arith, f)) (omega (arith, linear)) (omega (arith, linear)) (omega (arith, linear)))
+            | inr x ↦ (let a = gap (suc p) in let b = gap r in let c = gap (suc r) in let x0 = x.0 in let x1 = x.1 in troughs p (suc p) r (suc r) (omega arith) (omega (arith, o, qr)) (omega arith) f (omega (arith, linear)) (omega (arith, linear)) (omega (arith, linear)))
+          ]
+
+  pub corners_turn : (p q r : ℕ) → p < q → q < r → r < length points → pos 0 ≤ℤ turn (point_at points p) (point_at points q) (point_at points r)
+  corners_turn p q r h k l = subst (λ m. pos 0 ≤ℤ turn (R p) (R q) (R m)) rest (turns_from p q (r - suc q) h (subst (λ m. m < length points) (sym rest) l)) where
+    rest : suc q + (r - suc q) ≡ r
+    rest = omega (arith, k)
