@@ -21,3 +21,4 @@ pub mod PairOrder
 pub mod Starts
 pub mod ConvexEdges
 pub mod PlainSheets
+pub mod SubRings
