@@ -39,7 +39,7 @@ least_place (suc (suc n)) f h = by (least_place (suc n) f (omega arith)) where
 -- ---- directions of edges on one line
 
 -- each of three directions is a sum of multiples of the others
-exchange : (u h w : Pt) → rank u *ℤ cross h w ≡ rank h *ℤ cross u w -ℤ rank w *ℤ cross u h
+pub exchange : (u h w : Pt) → rank u *ℤ cross h w ≡ rank h *ℤ cross u w -ℤ rank w *ℤ cross u h
 exchange u h w = solve (pos (POINT_SIZE + POINT_SIZE) ∷ u.x ∷ u.y ∷ h.x ∷ h.y ∷ w.x ∷ w.y ∷ [])
     ((var 0 ⊗ var 1 ⊕ var 2) ⊗ (var 3 ⊗ var 6 ⊖ var 4 ⊗ var 5))
     ((var 0 ⊗ var 3 ⊕ var 4) ⊗ (var 1 ⊗ var 6 ⊖ var 2 ⊗ var 5) ⊖ (var 0 ⊗ var 5 ⊕ var 6) ⊗ (var 1 ⊗ var 4 ⊖ var 2 ⊗ var 3)) refl
@@ -66,7 +66,7 @@ goes_along u h w along left on hn = record { up = way_up (rank u) (rank h) (cros
 -- ---- points of segments
 
 -- how far left of a line a point of a segment is, and where it stands in the order
-turn_mixed : (p q a b : Pt) (s t : ℤ) → s *ℤ turn p q a +ℤ t *ℤ turn p q b
+pub turn_mixed : (p q a b : Pt) (s t : ℤ) → s *ℤ turn p q a +ℤ t *ℤ turn p q b
     ≡ cross (minus q p) (record { x = s *ℤ a.x +ℤ t *ℤ b.x; y = s *ℤ a.y +ℤ t *ℤ b.y }) -ℤ (s +ℤ t) *ℤ cross (minus q p) p
 turn_mixed p q a b s t = solve (p.x ∷ p.y ∷ q.x ∷ q.y ∷ a.x ∷ a.y ∷ b.x ∷ b.y ∷ s ∷ t ∷ [])
     (var 8 ⊗ ((var 2 ⊖ var 0) ⊗ (var 5 ⊖ var 1) ⊖ (var 3 ⊖ var 1) ⊗ (var 4 ⊖ var 0)) ⊕ var 9 ⊗ ((var 2 ⊖ var 0) ⊗ (var 7 ⊖ var 1) ⊖ (var 3 ⊖ var 1) ⊗ (var 6 ⊖ var 0)))
@@ -113,7 +113,7 @@ pub turn_cycled : (p q r : Pt) → turn p q r ≡ turn q r p
 turn_cycled p q r = solve (p.x ∷ p.y ∷ q.x ∷ q.y ∷ r.x ∷ r.y ∷ []) ((var 2 ⊖ var 0) ⊗ (var 5 ⊖ var 1) ⊖ (var 3 ⊖ var 1) ⊗ (var 4 ⊖ var 0)) ((var 4 ⊖ var 2) ⊗ (var 1 ⊖ var 3) ⊖ (var 5 ⊖ var 3) ⊗ (var 0 ⊖ var 2)) refl
 
 -- a mean of two numbers that aren't negative is 0 where both are
-none : (a b x y : ℤ) → pos 0 ≤ℤ a → pos 0 ≤ℤ b → pos 0 <ℤ x → pos 0 <ℤ y → x *ℤ a +ℤ y *ℤ b ≡ pos 0 → (a ≡ pos 0) × (b ≡ pos 0)
+pub none : (a b x y : ℤ) → pos 0 ≤ℤ a → pos 0 ≤ℤ b → pos 0 <ℤ x → pos 0 <ℤ y → x *ℤ a +ℤ y *ℤ b ≡ pos 0 → (a ≡ pos 0) × (b ≡ pos 0)
 none a b x y f g h k e = (
   by_sign a (λ l. absurd (omega (arith, linear))) (λ z. z) (λ l. let u = pos-mul x a h l in let v = nonneg-mul y b (omega (arith, linear)) g in absurd (omega (arith, linear))),
   by_sign b (λ l. absurd (omega (arith, linear))) (λ z. z) (λ l. let u = pos-mul y b k l in let v = nonneg-mul x a (omega (arith, linear)) f in absurd (omega (arith, linear))),

@@ -22,3 +22,4 @@ pub mod Starts
 pub mod ConvexEdges
 pub mod PlainSheets
 pub mod SubRings
+pub mod OneCrease
