@@ -23,3 +23,4 @@ pub mod ConvexEdges
 pub mod PlainSheets
 pub mod SubRings
 pub mod OneCrease
+pub mod CutRings
