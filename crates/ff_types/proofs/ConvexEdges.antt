@@ -112,6 +112,9 @@ turn-last p q = solve (p.x ∷ p.y ∷ q.x ∷ q.y ∷ []) ((var 2 ⊖ var 0) �
 pub turn_cycled : (p q r : Pt) → turn p q r ≡ turn q r p
 turn_cycled p q r = solve (p.x ∷ p.y ∷ q.x ∷ q.y ∷ r.x ∷ r.y ∷ []) ((var 2 ⊖ var 0) ⊗ (var 5 ⊖ var 1) ⊖ (var 3 ⊖ var 1) ⊗ (var 4 ⊖ var 0)) ((var 4 ⊖ var 2) ⊗ (var 1 ⊖ var 3) ⊖ (var 5 ⊖ var 3) ⊗ (var 0 ⊖ var 2)) refl
 
+pub turn_swapped : (p q r : Pt) → turn p q r ≡ neg_ℤ (turn p r q)
+turn_swapped p q r = solve (p.x ∷ p.y ∷ q.x ∷ q.y ∷ r.x ∷ r.y ∷ []) ((var 2 ⊖ var 0) ⊗ (var 5 ⊖ var 1) ⊖ (var 3 ⊖ var 1) ⊗ (var 4 ⊖ var 0)) (opp ((var 4 ⊖ var 0) ⊗ (var 3 ⊖ var 1) ⊖ (var 5 ⊖ var 1) ⊗ (var 2 ⊖ var 0))) refl
+
 -- a mean of two numbers that aren't negative is 0 where both are
 pub none : (a b x y : ℤ) → pos 0 ≤ℤ a → pos 0 ≤ℤ b → pos 0 <ℤ x → pos 0 <ℤ y → x *ℤ a +ℤ y *ℤ b ≡ pos 0 → (a ≡ pos 0) × (b ≡ pos 0)
 none a b x y f g h k e = (

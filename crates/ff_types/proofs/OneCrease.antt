@@ -20,7 +20,7 @@ use Rattle.ff_types.specs.Patterns.{edge_at, Joins}
 use Rattle.ff_types.specs.Drawings.{IsDrawing, MeetAtEnds, Common, IsEnd, HasTwoEdges, joins, joined, has_end, first_point, last_point}
 use Rattle.ff_types.proofs.Computing.{both, either, equal_itself}
 use Rattle.ff_types.proofs.ComputedFaces.{joins_is}
-use Rattle.ff_types.proofs.ConvexEdges.{inside_alone, turn_mixed, turn-last, turn_cycled, exchange, corners_turn, none}
+use Rattle.ff_types.proofs.ConvexEdges.{inside_alone, turn_mixed, turn-last, turn_cycled, turn_swapped, exchange, corners_turn, none}
 use Rattle.ff_types.proofs.PlainSheets.{IsCycle, plain_drawing}
 
 -- ---- one more edge
@@ -35,6 +35,13 @@ at_end es c = get_or-append_right es (c ∷ []) (length es) (length es) _ refl (
 
 longer : (es : List EdgeEnds) (c : EdgeEnds) → length (es ++ c ∷ []) ≡ length es + 1
 longer es c = length-append es (c ∷ [])
+
+-- an edge of the longer list is one of the others, or the last
+which_edge : (es : List EdgeEnds) (c : EdgeEnds) (e : ℕ) → e < length (es ++ c ∷ []) → ((e < length es) × (edge_at (es ++ c ∷ []) e ≡ edge_at es e)) ⊎ ((e ≡ length es) × (edge_at (es ++ c ∷ []) e ≡ c))
+which_edge es c e h = elim (cases_lt e (length es)) [
+  | inl l ↦ inl (l, at_front es c e l)
+  | inr l ↦ (let x : e ≡ length es = omega (arith, h, l, longer es c) in inr (x, ap (λ k. edge_at (es ++ c ∷ []) k) x ∙ at_end es c))
+]
 
 meet_swapped : (points : List Pt) (e k : EdgeEnds) → MeetAtEnds points e k → MeetAtEnds points k e
 meet_swapped points e k m s t u v c = let r = m u v s t (record { some = omega (arith, c.some, c.sums); sums = sym c.sums; same = sym c.same }) in (r.1, r.0)
@@ -68,10 +75,7 @@ add_edge points es c d j new m = record {
   meet = meet;
 } where
   where_is : (e : ℕ) → e < length (es ++ c ∷ []) → ((e < length es) × (edge_at (es ++ c ∷ []) e ≡ edge_at es e)) ⊎ ((e ≡ length es) × (edge_at (es ++ c ∷ []) e ≡ c))
-  where_is e h = elim (cases_lt e (length es)) [
-    | inl l ↦ inl (l, at_front es c e l)
-    | inr l ↦ (let x : e ≡ length es = omega (arith, h, l, longer es c) in inr (x, ap (λ k. edge_at (es ++ c ∷ []) k) x ∙ at_end es c))
-  ]
+  where_is e h = which_edge es c e h
 
   more_edges : (v : ℕ) → HasTwoEdges es v → HasTwoEdges (es ++ c ∷ []) v
   more_edges v (e, k, h, l, t, u) = (e, k, h, omega (arith, l, longer es c), subst (λ x. IsTrue (has_end x v)) (sym (at_front es c e (omega (arith, h, l)))) t, subst (λ x. IsTrue (has_end x v)) (sym (at_front es c k l)) u)
@@ -209,3 +213,64 @@ module _ (points : List Pt) (near : All IsNear points) (apart : AreApart points)
         at_end : IsEnd s t → ⊥
         at_end (inl e) = corner_apart j k jn h t u v (R i) (omega (arith, e, c.sums)) (mix_turned t 0 (R j) (R i) ∙ (ap (λ z. mix z (R i) t (R j)) (sym e) ∙ c.same)) hu hv
         at_end (inr e) = corner_apart i k i_low h s u v (R j) (omega (arith, e, c.sums)) (ap (λ z. mix s (R i) z (R j)) (sym e) ∙ c.same) hu hv
+
+    -- ---- the sides of the chord
+
+    right_side : (x : ℕ) → i ≤ x → x ≤ j → turn (R i) (R j) (R x) ≤ℤ pos 0
+    right_side x h l = elim (cases_lt i x) [
+      | inl a ↦ elim (cases_lt x j) [
+        | inl b ↦ (let t = corners_turn points near apart ring (omega (arith, enough)) i x j a b jn in let s = turn_swapped (R i) (R j) (R x) in omega (arith, linear))
+        | inr b ↦ (let e : x ≡ j = omega (arith, l, b) in subst (λ y. turn (R i) (R j) (R y) ≤ℤ pos 0) (sym e) (let z = turn-last (R i) (R j) in omega (arith, linear)))
+      ]
+      | inr a ↦ (let e : x ≡ i = omega (arith, h, a) in subst (λ y. turn (R i) (R j) (R y) ≤ℤ pos 0) (sym e) (let z = turn-first (R i) (R j) in omega (arith, linear)))
+    ]
+
+    left_side : (x : ℕ) → (x ≤ i) ⊎ (j ≤ x) → x < n → pos 0 ≤ℤ turn (R i) (R j) (R x)
+    left_side x (inl h) l = elim (cases_lt x i) [
+      | inl a ↦ (let t = corners_turn points near apart ring (omega (arith, enough)) x i j a ij jn in let s = turn_cycled (R x) (R i) (R j) in omega (arith, linear))
+      | inr a ↦ (let e : x ≡ i = omega (arith, h, a) in subst (λ y. pos 0 ≤ℤ turn (R i) (R j) (R y)) (sym e) (let z = turn-first (R i) (R j) in omega (arith, linear)))
+    ]
+    left_side x (inr h) l = elim (cases_lt j x) [
+      | inl a ↦ corners_turn points near apart ring (omega (arith, enough)) i j x ij a l
+      | inr a ↦ (let e : x ≡ j = omega (arith, h, a) in subst (λ y. pos 0 ≤ℤ turn (R i) (R j) (R y)) (sym e) (let z = turn-last (R i) (R j) in omega (arith, linear)))
+    ]
+
+    -- the corner on the left isn't between i and j, so these aren't the first and the last
+    not_all : i ≡ 0 → j + 1 ≡ n → ⊥
+    not_all e f = let a = right_side o (omega (arith, e)) (omega (arith, f, on)) in omega (arith, linear)
+
+    not_beside : next n j ≡ i → ⊥
+    not_beside e = elim (cases_lt (j + 1) n) [
+      | inl l ↦ (let f : next n j ≡ j + 1 = grind (arith, nat_tests, l) in omega (arith, e, f, ij))
+      | inr l ↦ (let f : next n j ≡ 0 = grind (arith, nat_tests, l) in not_all (sym e ∙ f) (omega (arith, jn, l)))
+    ]
+
+    not_next : next n i ≡ j → ⊥
+    not_next e = let f : next n i ≡ i + 1 = grind (arith, nat_tests, im, mj, jn) in omega (arith, e, f, im, mj)
+
+    module _ (es : List EdgeEnds) (cycle : IsCycle (length points) es) (c : EdgeEnds) (chord : (c ≡ record { a = i; b = j }) ⊎ (c ≡ record { a = j; b = i })) where
+      by_chord {ℓ} : (P : EdgeEnds → Type ℓ) → P (record { a = i; b = j }) → P (record { a = j; b = i }) → P c
+      by_chord P x y = elim chord [ inl e ↦ subst P (sym e) x | inr e ↦ subst P (sym e) y ]
+
+      is_step : (k : ℕ) → k < length es → edge_at es k ≡ record { a = k; b = next n k }
+      is_step k h = cycle.joined k (subst (λ m. k < m) cycle.as_many h)
+
+      step_low : (k : ℕ) → k < length es → k < n
+      step_low k h = subst (λ m. k < m) cycle.as_many h
+
+      fresh_step : (a b k : ℕ) → k < length es → (k ≡ a → next n k ≡ b → ⊥) → (k ≡ b → next n k ≡ a → ⊥) → IsTrue (joins a b (edge_at es k)) → ⊥
+      fresh_step a b k h f g t = elim (joins_is (record { a = k; b = next n k }) a b (subst (λ x. IsTrue (joins a b x)) (is_step k h) t)) [ inl p ↦ f p.0 p.1 | inr p ↦ g p.0 p.1 ]
+
+      fresh : (k : ℕ) → k < length es → IsTrue (joins c.a c.b (edge_at es k)) → ⊥
+      fresh k h = by_chord (λ x. IsTrue (joins x.a x.b (edge_at es k)) → ⊥)
+          (fresh_step i j k h (λ e f. not_next (ap (next n) (sym e) ∙ f)) (λ e f. not_beside (ap (next n) (sym e) ∙ f)))
+          (fresh_step j i k h (λ e f. not_beside (ap (next n) (sym e) ∙ f)) (λ e f. not_next (ap (next n) (sym e) ∙ f)))
+
+      meets : (k : ℕ) → k < length es → MeetAtEnds points c (edge_at es k)
+      meets k h = subst (λ x. MeetAtEnds points c x) (sym (is_step k h)) (by_chord (λ x. MeetAtEnds points x (record { a = k; b = next n k })) (chord_meets k (step_low k h)) (meet_turned points i j (record { a = k; b = next n k }) (chord_meets k (step_low k h))))
+
+      -- The ring with the chord is a drawing.
+      pub crease_drawing : IsDrawing points (es ++ c ∷ [])
+      crease_drawing = add_edge points es c (plain_drawing points es near apart ring enough cycle) joined_ends fresh meets where
+        joined_ends : Joins n c
+        joined_ends = by_chord (λ x. Joins n x) (record { first = i_low; second = jn; differ = λ e. omega (arith, e, ij) }) (record { first = jn; second = i_low; differ = λ e. omega (arith, e, ij) })
