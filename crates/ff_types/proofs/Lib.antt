@@ -24,3 +24,4 @@ pub mod PlainSheets
 pub mod SubRings
 pub mod OneCrease
 pub mod CutRings
+pub mod CreaseFaces

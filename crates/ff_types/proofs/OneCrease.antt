@@ -25,19 +25,19 @@ use Rattle.ff_types.proofs.PlainSheets.{IsCycle, plain_drawing}
 
 -- ---- one more edge
 
-at_front : (es : List EdgeEnds) (c : EdgeEnds) (k : ℕ) → k < length es → edge_at (es ++ c ∷ []) k ≡ edge_at es k
+pub at_front : (es : List EdgeEnds) (c : EdgeEnds) (k : ℕ) → k < length es → edge_at (es ++ c ∷ []) k ≡ edge_at es k
 at_front es c k h = get_or_append_left es (c ∷ []) _ k h
 
-at_end : (es : List EdgeEnds) (c : EdgeEnds) → edge_at (es ++ c ∷ []) (length es) ≡ c
+pub at_end : (es : List EdgeEnds) (c : EdgeEnds) → edge_at (es ++ c ∷ []) (length es) ≡ c
 at_end es c = get_or-append_right es (c ∷ []) (length es) (length es) _ refl (omega arith) ∙ ap (λ k. edge_at (c ∷ []) k) zero_is where
   zero_is : length es - length es ≡ 0
   zero_is = omega arith
 
-longer : (es : List EdgeEnds) (c : EdgeEnds) → length (es ++ c ∷ []) ≡ length es + 1
+pub longer : (es : List EdgeEnds) (c : EdgeEnds) → length (es ++ c ∷ []) ≡ length es + 1
 longer es c = length-append es (c ∷ [])
 
 -- an edge of the longer list is one of the others, or the last
-which_edge : (es : List EdgeEnds) (c : EdgeEnds) (e : ℕ) → e < length (es ++ c ∷ []) → ((e < length es) × (edge_at (es ++ c ∷ []) e ≡ edge_at es e)) ⊎ ((e ≡ length es) × (edge_at (es ++ c ∷ []) e ≡ c))
+pub which_edge : (es : List EdgeEnds) (c : EdgeEnds) (e : ℕ) → e < length (es ++ c ∷ []) → ((e < length es) × (edge_at (es ++ c ∷ []) e ≡ edge_at es e)) ⊎ ((e ≡ length es) × (edge_at (es ++ c ∷ []) e ≡ c))
 which_edge es c e h = elim (cases_lt e (length es)) [
   | inl l ↦ inl (l, at_front es c e l)
   | inr l ↦ (let x : e ≡ length es = omega (arith, h, l, longer es c) in inr (x, ap (λ k. edge_at (es ++ c ∷ []) k) x ∙ at_end es c))
@@ -144,6 +144,17 @@ before n (suc w) h l = (w, omega (arith, l), inner, λ e. omega (arith, e)) wher
   inner : next n w ≡ suc w
   inner = grind (arith, nat_tests, l)
 
+-- The corners i and j have corners of the ring on both sides of the line through them: those between on or right of it, the
+-- others on or left.
+pub record IsChord (points : List Pt) (i j : ℕ) : Type 0 where
+  pub far : i + 1 < j
+  pub low : j < length points
+  pub right : (x : ℕ) → i ≤ x → x ≤ j → turn (point_at points i) (point_at points j) (point_at points x) ≤ℤ pos 0
+  pub left : (x : ℕ) → (x ≤ i) ⊎ (j ≤ x) → x < length points → pos 0 ≤ℤ turn (point_at points i) (point_at points j) (point_at points x)
+  pub apart : next (length points) j ≡ i → ⊥
+  pub some_right : (m : ℕ) × (i < m) × (m < j) × (turn (point_at points i) (point_at points j) (point_at points m) <ℤ pos 0)
+  pub some_left : (o : ℕ) × ((o < i) ⊎ (j < o)) × (o < length points) × (pos 0 <ℤ turn (point_at points i) (point_at points j) (point_at points o))
+
 module _ (points : List Pt) (near : All IsNear points) (apart : AreApart points) (ring : IsConvex points) (enough : 3 ≤ length points) where
   abbrev R : ℕ → Pt
   R i = point_at points i
@@ -247,6 +258,15 @@ module _ (points : List Pt) (near : All IsNear points) (apart : AreApart points)
 
     not_next : next n i ≡ j → ⊥
     not_next e = let f : next n i ≡ i + 1 = grind (arith, nat_tests, im, mj, jn) in omega (arith, e, f, im, mj)
+
+    outside : (o < i) ⊎ (j < o)
+    outside = elim (cases_lt o i) [
+      | inl l ↦ inl l
+      | inr l ↦ elim (cases_lt j o) [ inl k ↦ inr k | inr k ↦ (let a = right_side o l k in absurd (omega (arith, linear))) ]
+    ]
+
+    pub chord_is : IsChord points i j
+    chord_is = record { far = omega (arith, im, mj); low = jn; right = right_side; left = left_side; apart = not_beside; some_right = (m, im, mj, right); some_left = (o, outside, on, left) }
 
     module _ (es : List EdgeEnds) (cycle : IsCycle (length points) es) (c : EdgeEnds) (chord : (c ≡ record { a = i; b = j }) ⊎ (c ≡ record { a = j; b = i })) where
       by_chord {ℓ} : (P : EdgeEnds → Type ℓ) → P (record { a = i; b = j }) → P (record { a = j; b = i }) → P c

@@ -44,10 +44,10 @@ whole n = range_with_len 0 n
 
 -- ---- places of a closed list of at least three
 
-next_back : (n i : ℕ) → 3 ≤ n → i < n → next n (next n i) ≡ i → ⊥
+pub next_back : (n i : ℕ) → 3 ≤ n → i < n → next n (next n i) ≡ i → ⊥
 next_back n i h l e = grind (arith, nat_tests)
 
-next_once : (n i j : ℕ) → i < n → j < n → next n i ≡ next n j → i ≡ j
+pub next_once : (n i j : ℕ) → i < n → j < n → next n i ≡ next n j → i ≡ j
 next_once n i j h l e = grind (arith, nat_tests)
 
 -- ---- the ring of all vertices
@@ -74,7 +74,7 @@ goes_next n u v g =
 
 -- ---- edges of a list
 
-joined_at : (edges : List EdgeEnds) (e u v : ℕ) → e < length edges → IsTrue (joins u v (edge_at edges e)) → IsTrue (joined edges u v)
+pub joined_at : (edges : List EdgeEnds) (e u v : ℕ) → e < length edges → IsTrue (joins u v (edge_at edges e)) → IsTrue (joined edges u v)
 joined_at [] e u v h t = absurd (omega (arith, h))
 joined_at (k ∷ edges) zero u v h t = rw t refl
 joined_at (k ∷ edges) (suc e) u v h t = by (joins u v k) (joined_at edges e u v (omega (arith, h)) t) where
@@ -82,14 +82,14 @@ joined_at (k ∷ edges) (suc e) u v h t = by (joins u v k) (joined_at edges e u 
   by true t = refl
   by false t = t
 
-some_joins : (edges : List EdgeEnds) (u v : ℕ) → IsTrue (joined edges u v) → (e : ℕ) × (e < length edges) × IsTrue (joins u v (edge_at edges e))
+pub some_joins : (edges : List EdgeEnds) (u v : ℕ) → IsTrue (joined edges u v) → (e : ℕ) × (e < length edges) × IsTrue (joins u v (edge_at edges e))
 some_joins [] u v t = absurd (false≢true t)
 some_joins (k ∷ edges) u v t = elim (either (joins u v k) (joined edges u v) t) [
   | inl h ↦ (0, omega arith, h)
   | inr h ↦ let r = some_joins edges u v h in (suc r.0, omega (arith, r.1), r.2)
 ]
 
-joins_itself : (a b : ℕ) → IsTrue (joins a b (record { a = a; b = b }))
+pub joins_itself : (a b : ℕ) → IsTrue (joins a b (record { a = a; b = b }))
 joins_itself a b = rw (equal_itself a, equal_itself b) refl
 
 -- ---- areas
@@ -98,7 +98,7 @@ swept : (u v q : Pt) → cross u v ≡ cross (minus u q) (minus v q) +ℤ (cross
 swept u v q = solve (u.x ∷ u.y ∷ v.x ∷ v.y ∷ q.x ∷ q.y ∷ []) (var 0 ⊗ var 3 ⊖ var 1 ⊗ var 2)
     (((var 0 ⊖ var 4) ⊗ (var 3 ⊖ var 5) ⊖ (var 1 ⊖ var 5) ⊗ (var 2 ⊖ var 4)) ⊕ ((var 4 ⊗ var 3 ⊖ var 5 ⊗ var 2) ⊖ (var 4 ⊗ var 1 ⊖ var 5 ⊗ var 0))) refl
 
-turned_round : (p r q : Pt) → cross (minus r q) (minus p q) ≡ neg_ℤ (turn p r q)
+pub turned_round : (p r q : Pt) → cross (minus r q) (minus p q) ≡ neg_ℤ (turn p r q)
 turned_round p r q = solve (p.x ∷ p.y ∷ r.x ∷ r.y ∷ q.x ∷ q.y ∷ []) ((var 2 ⊖ var 4) ⊗ (var 1 ⊖ var 5) ⊖ (var 3 ⊖ var 5) ⊗ (var 0 ⊖ var 4))
     (opp ((var 2 ⊖ var 0) ⊗ (var 5 ⊖ var 1) ⊖ (var 3 ⊖ var 1) ⊗ (var 4 ⊖ var 0))) refl
 
