@@ -115,3 +115,146 @@ two_rings points edges marks p q t = record {
   sorted zero (suc zero) h l = t.sorted
   sorted (suc f) (suc zero) h l = absurd (omega (arith, h))
   sorted f (suc (suc g)) h l = absurd (omega (arith, l))
+
+-- ---- lists in dictionary order
+
+pub before_first : (p q : List ℕ) → 0 < length p → 0 < length q → corner p 0 < corner q 0 → IsTrue (list_before p q)
+before_first [] q h l m = absurd (omega (arith, h))
+before_first (x ∷ p) [] h l m = absurd (omega (arith, l))
+before_first (x ∷ p) (y ∷ q) h l m = rw (lt-ltb x y m) refl
+
+pub before_second : (p q : List ℕ) → 1 < length p → 1 < length q → corner p 0 ≡ corner q 0 → corner p 1 < corner q 1 → IsTrue (list_before p q)
+before_second [] q h l e m = absurd (omega (arith, h))
+before_second (x ∷ []) q h l e m = absurd (omega (arith, h))
+before_second (x ∷ y ∷ p) [] h l e m = absurd (omega (arith, l))
+before_second (x ∷ y ∷ p) (z ∷ []) h l e m = absurd (omega (arith, l))
+before_second (x ∷ y ∷ p) (z ∷ w ∷ q) h l e m = by (nat_lt x z) where
+  rest : IsTrue ((x == z) && (nat_lt y w || ((y == w) && list_before p q)))
+  rest = rw (e, equal_itself z, lt-ltb y w m) refl
+
+  by : (b : Bool) → IsTrue (b || ((x == z) && (nat_lt y w || ((y == w) && list_before p q))))
+  by true = refl
+  by false = rest
+
+-- ---- which vertices the edges join
+
+data Way (n i j u v : ℕ) : Type 0 where
+  forward : u < n → v ≡ next n u → Way n i j u v
+  backward : v < n → u ≡ next n v → Way n i j u v
+  across : u ≡ i → v ≡ j → Way n i j u v
+  back : u ≡ j → v ≡ i → Way n i j u v
+
+least_of : (n : ℕ) (list : List ℕ) → Rises n list → (a : ℕ) → a < length list → corner list 0 ≤ corner list a
+least_of n list r zero h = omega arith
+least_of n list r (suc a) h = let l = r.rising 0 (suc a) (omega arith) h in omega (arith, l)
+
+joins_turned : (a b : ℕ) → IsTrue (joins b a (record { a = a; b = b }))
+joins_turned a b = by (a == b && b == a) where
+  by : (t : Bool) → IsTrue (t || (a == a && b == b))
+  by true = refl
+  by false = rw (equal_itself a, equal_itself b) refl
+
+not_border : (rings : List (List ℕ)) (e : EdgeEnds) (m : Mark) → m ≢ B → Belongs rings e.a e.b → Belongs rings e.b e.a → FitsMark rings e m
+not_border rings e B n x y = absurd (n refl)
+not_border rings e M n x y = (x, y)
+not_border rings e V n x y = (x, y)
+not_border rings e F n x y = (x, y)
+not_border rings e U n x y = (x, y)
+
+module _ (points : List Pt) (near : All IsNear points) (apart : AreApart points) (ring : IsConvex points) (enough : 3 ≤ length points) (i j : ℕ) (chord : IsChord points i j)
+    (es : List EdgeEnds) (cycle : IsCycle (length points) es) (c : EdgeEnds) (ends : (c ≡ record { a = i; b = j }) ⊎ (c ≡ record { a = j; b = i })) where
+  abbrev R : ℕ → Pt
+  R k = point_at points k
+
+  abbrev n : ℕ
+  n = length points
+
+  abbrev edges : List EdgeEnds
+  edges = es ++ c ∷ []
+
+  i_low : i < n
+  i_low = omega (arith, chord.far, chord.low)
+
+  below_es : (k : ℕ) → k < n → k < length es
+  below_es k h = subst (λ m. k < m) (sym cycle.as_many) h
+
+  below_edges : (k : ℕ) → k < n → k < length edges
+  below_edges k h = omega (arith, below_es k h, longer es c)
+
+  at_step : (k : ℕ) → k < n → edge_at edges k ≡ record { a = k; b = next n k }
+  at_step k h = at_front es c k (below_es k h) ∙ cycle.joined k h
+
+  joined_step : (k : ℕ) → k < n → IsTrue (joined edges k (next n k)) × IsTrue (joined edges (next n k) k)
+  joined_step k h = (
+    joined_at edges k k (next n k) (below_edges k h) (subst (λ x. IsTrue (joins k (next n k) x)) (sym (at_step k h)) (joins_itself k (next n k))),
+    joined_at edges k (next n k) k (below_edges k h) (subst (λ x. IsTrue (joins (next n k) k x)) (sym (at_step k h)) (joins_turned k (next n k))),
+  )
+
+  last_edge : length es < length edges
+  last_edge = omega (arith, longer es c)
+
+  joins_chord : IsTrue (joins i j c) × IsTrue (joins j i c)
+  joins_chord = elim ends [
+    | inl e ↦ (subst (λ x. IsTrue (joins i j x)) (sym e) (joins_itself i j), subst (λ x. IsTrue (joins j i x)) (sym e) (joins_turned i j))
+    | inr e ↦ (subst (λ x. IsTrue (joins i j x)) (sym e) (joins_turned j i), subst (λ x. IsTrue (joins j i x)) (sym e) (joins_itself j i))
+  ]
+
+  joined_chord : IsTrue (joined edges i j) × IsTrue (joined edges j i)
+  joined_chord = (joined_at edges (length es) i j last_edge (subst (λ x. IsTrue (joins i j x)) (sym (at_end es c)) joins_chord.0), joined_at edges (length es) j i last_edge (subst (λ x. IsTrue (joins j i x)) (sym (at_end es c)) joins_chord.1))
+
+  way : (u v : ℕ) → IsTrue (joined edges u v) → Way n i j u v
+  way u v t = by (some_joins edges u v t) where
+    of_chord : IsTrue (joins u v c) → Way n i j u v
+    of_chord t = elim ends [
+      | inl e ↦ elim (joins_is (record { a = i; b = j }) u v (subst (λ x. IsTrue (joins u v x)) e t)) [ inl p ↦ across (sym p.0) (sym p.1) | inr p ↦ back (sym p.1) (sym p.0) ]
+      | inr e ↦ elim (joins_is (record { a = j; b = i }) u v (subst (λ x. IsTrue (joins u v x)) e t)) [ inl p ↦ back (sym p.0) (sym p.1) | inr p ↦ across (sym p.1) (sym p.0) ]
+    ]
+
+    of_step : (k : ℕ) → k < n → IsTrue (joins u v (record { a = k; b = next n k })) → Way n i j u v
+    of_step k h t = elim (joins_is (record { a = k; b = next n k }) u v t) [
+      | inl p ↦ forward (subst (λ x. x < n) p.0 h) (sym p.1 ∙ ap (next n) p.0)
+      | inr p ↦ backward (subst (λ x. x < n) p.0 h) (sym p.1 ∙ ap (next n) p.0)
+    ]
+
+    by : (e : ℕ) × (e < length edges) × IsTrue (joins u v (edge_at edges e)) → Way n i j u v
+    by (e, h, t) = elim (which_edge es c e h) [
+      | inl x ↦ (let l : e < n = subst (λ m. e < m) cycle.as_many x.0 in of_step e l (subst (λ y. IsTrue (joins u v y)) (at_step e l) t))
+      | inr x ↦ of_chord (subst (λ y. IsTrue (joins u v y)) x.1 t)
+    ]
+
+  -- ---- the two lists are rings
+
+  back_side : (x : ℕ) → (x ≤ i) ⊎ (j ≤ x) → x < n → turn (R j) (R i) (R x) ≤ℤ pos 0
+  back_side x h l = let a = chord.left x h l in let b = turn_cycled (R j) (R i) (R x) in let d = turn_swapped (R i) (R x) (R j) in omega (arith, linear)
+
+  side_next : (k : ℕ) → (k < i) ⊎ (j ≤ k) → k < n → (next n k ≤ i) ⊎ (j ≤ next n k)
+  side_next k (inl h) l = inl (let e : next n k ≡ k + 1 = grind (arith, nat_tests, h, i_low) in omega (arith, e, h))
+  side_next k (inr h) l = elim (cases_lt (k + 1) n) [
+    | inl m ↦ inr (let e : next n k ≡ k + 1 = grind (arith, nat_tests, m) in omega (arith, e, h))
+    | inr m ↦ inl (let e : next n k ≡ 0 = grind (arith, nat_tests, m) in omega (arith, e))
+  ]
+
+  between_next : (k : ℕ) → k < j → next n k ≡ k + 1
+  between_next k h = let l : k + 1 < n = omega (arith, h, chord.low) in grind (arith, nat_tests, l)
+
+  -- an edge of the drawing: a step, or the chord in one direction
+  by_edge : (P : EdgeEnds → Type 0) → ((k : ℕ) → k < n → P (record { a = k; b = next n k })) → P (record { a = i; b = j }) → P (record { a = j; b = i }) → (e : ℕ) → e < length edges → P (edge_at edges e)
+  by_edge P f x y e h = elim (which_edge es c e h) [
+    | inl z ↦ (let l : e < n = subst (λ m. e < m) cycle.as_many z.0 in subst P (sym (at_step e l)) (f e l))
+    | inr z ↦ subst P (sym z.1) (elim ends [ inl w ↦ subst P (sym w) x | inr w ↦ subst P (sym w) y ])
+  ]
+
+  where_at : (k : ℕ) → ((i ≤ k) × (k < j)) ⊎ ((k < i) ⊎ (j ≤ k))
+  where_at k = elim (cases_lt k i) [ inl h ↦ inr (inl h) | inr h ↦ elim (cases_lt k j) [ inl l ↦ inl (h, l) | inr l ↦ inr (inr l) ] ]
+
+  weaker : (k : ℕ) → (k < i) ⊎ (j ≤ k) → (k ≤ i) ⊎ (j ≤ k)
+  weaker k (inl h) = inl (omega (arith, h))
+  weaker k (inr h) = inr h
+
+  joined_by : (list : List ℕ) (u v : ℕ) → (((u < n) × (v ≡ next n u)) ⊎ (((u ≡ i) × (v ≡ j)) ⊎ ((u ≡ j) × (v ≡ i)))) → IsTrue (joined edges u v)
+  joined_by list u v (inl x) = subst (λ y. IsTrue (joined edges u y)) (sym x.1) (joined_step u x.0).0
+  joined_by list u v (inr (inl x)) = subst (λ y. IsTrue (joined edges y v)) (sym x.0) (subst (λ y. IsTrue (joined edges i y)) (sym x.1) joined_chord.0)
+  joined_by list u v (inr (inr x)) = subst (λ y. IsTrue (joined edges y v)) (sym x.0) (subst (λ y. IsTrue (joined edges j y)) (sym x.1) joined_chord.1)
+
+  place_goes : (list : List ℕ) (a : ℕ) → a < length list → Goes list (corner list a) (after list a)
+  place_goes list a h = record { place = a; inside = h; from = refl; to = refl }
