@@ -7,6 +7,7 @@ use Rattle.std.specs.List.{All}
 use Rattle.std.proofs.lemmas.Bool.{false≢true, cases_lt, lt-ltb}
 use Rattle.std.proofs.lemmas.Bool.Decides.{nat_tests}
 use Rattle.std.proofs.lemmas.List.{length-map}
+use Rattle.std.proofs.lemmas.List.FromFn.{get_or-range_with_len, length-range_with_len}
 use Rattle.ff_whole.specs.declared.points.Pt.{Pt}
 use Rattle.ff_whole.specs.Points.{minus, cross, turn, IsNear, origin}
 use Rattle.ff_whole.specs.Convex.{next, point_at, left_of, AreApart, IsConvex}
@@ -25,7 +26,7 @@ use Rattle.ff_types.proofs.Computing.{either, equal_itself}
 use Rattle.ff_types.proofs.ComputedFaces.{joins_is}
 use Rattle.ff_types.proofs.ConvexEdges.{turn-last, turn_cycled, turn_swapped}
 use Rattle.ff_types.proofs.SubRings.{Rises, corner_point, sub_convex}
-use Rattle.ff_types.proofs.CutRings.{inner, outer, inner_rises, outer_rises, inner_goes, inner_closes, inner_steps, outer_goes, outer_crosses, outer_steps}
+use Rattle.ff_types.proofs.CutRings.{inner, outer, inner_rises, outer_rises, inner_goes, inner_closes, inner_steps, outer_goes, outer_crosses, outer_steps, outer_length}
 use Rattle.ff_types.proofs.PlainSheets.{IsCycle, sweep, no_area, joined_at, some_joins, joins_itself, turned_round, next_once, next_back}
 use Rattle.ff_types.proofs.OneCrease.{IsChord, which_edge, at_front, at_end, longer}
 
@@ -144,6 +145,13 @@ data Way (n i j u v : ℕ) : Type 0 where
   across : u ≡ i → v ≡ j → Way n i j u v
   back : u ≡ j → v ≡ i → Way n i j u v
 
+-- numbers that rise differ
+differ : {n : ℕ} (list : List ℕ) → Rises n list → (a b : ℕ) → a < length list → b < length list → corner list a ≡ corner list b → a ≡ b
+differ list r a b h l e = elim (cases_lt a b) [
+  | inl m ↦ absurd (omega (arith, r.rising a b m l, e))
+  | inr m ↦ elim (cases_lt b a) [ inl o ↦ absurd (omega (arith, r.rising b a o h, e)) | inr o ↦ omega (arith, m, o) ]
+]
+
 least_of : (n : ℕ) (list : List ℕ) → Rises n list → (a : ℕ) → a < length list → corner list 0 ≤ corner list a
 least_of n list r zero h = omega arith
 least_of n list r (suc a) h = let l = r.rising 0 (suc a) (omega arith) h in omega (arith, l)
@@ -258,3 +266,79 @@ module _ (points : List Pt) (near : All IsNear points) (apart : AreApart points)
 
   place_goes : (list : List ℕ) (a : ℕ) → a < length list → Goes list (corner list a) (after list a)
   place_goes list a h = record { place = a; inside = h; from = refl; to = refl }
+
+  inner_long : 3 ≤ length (inner i j)
+  inner_long = omega (arith, length-range_with_len i (j + 1 - i), chord.far)
+
+  inner_size : length (inner i j) ≡ j + 1 - i
+  inner_size = length-range_with_len i (j + 1 - i)
+
+  inner_at : (a : ℕ) → a < length (inner i j) → corner (inner i j) a ≡ i + a
+  inner_at a h = get_or-range_with_len i (j + 1 - i) a 0 (subst (λ m. a < m) inner_size h)
+
+  bent_inner : (a b d : ℕ) → a < length (inner i j) → b < length (inner i j) → d < length (inner i j) → i + a ≡ i → i + b ≡ j → (m : ℕ) → i + d ≡ m → turn (R i) (R j) (R m) <ℤ pos 0
+      → turn (point_at points (corner (inner i j) a)) (point_at points (corner (inner i j) b)) (point_at points (corner (inner i j) d)) ≢ pos 0
+  bent_inner a b d h k l e f m g t z = out_of (subst (λ x. turn (R x) (point_at points (corner (inner i j) b)) (point_at points (corner (inner i j) d)) ≡ pos 0) (inner_at a h ∙ e) z) where
+    out_of : turn (R i) (point_at points (corner (inner i j) b)) (point_at points (corner (inner i j) d)) ≡ pos 0 → ⊥
+    out_of y = let w = subst (λ x. turn (R i) (R j) (R x) ≡ pos 0) (inner_at d l ∙ g) (subst (λ x. turn (R i) (R x) (point_at points (corner (inner i j) d)) ≡ pos 0) (inner_at b k ∙ f) y) in omega (arith, linear)
+
+  inner_convex : IsConvex (corners points (inner i j))
+  inner_convex = by chord.some_right where
+    by : (m : ℕ) × (i < m) × (m < j) × (turn (R i) (R j) (R m) <ℤ pos 0) → IsConvex (corners points (inner i j))
+    by (m, h, l, t) = sub_convex points near apart ring (omega (arith, enough)) (inner i j) (inner_rises n i j chord.far chord.low) 0 (j - i) (m - i) (omega (arith, inner_long)) (omega (arith, inner_size, chord.far)) (omega (arith, inner_size, h, l)) (omega (arith, inner_long))
+        (bent_inner 0 (j - i) (m - i) (omega (arith, inner_long)) (omega (arith, inner_size, chord.far)) (omega (arith, inner_size, h, l)) (omega arith) (omega (arith, chord.far)) m (omega (arith, h)) t)
+
+  turn_none : (u v : ℕ) → turn (R u) (R v) (R u) ≤ℤ pos 0
+  turn_none u v = at_most _ (turn-first (R u) (R v))
+
+  turn_end : (u v : ℕ) → turn (R u) (R v) (R v) ≤ℤ pos 0
+  turn_end u v = at_most _ (turn-last (R u) (R v))
+
+  pub inner_ring : IsRing points edges (inner i j)
+  inner_ring = record {
+    three = inner_long;
+    there = λ a h. (inner_rises n i j chord.far chord.low).low a h;
+    differ = differ (inner i j) (inner_rises n i j chord.far chord.low);
+    joins = λ a h. joined_by (inner i j) (corner (inner i j) a) (after (inner i j) a) (elim (inner_steps n i j chord.far chord.low _ _ (place_goes (inner i j) a h)) [
+      | inl x ↦ inl (omega (arith, x.1, chord.low), x.2)
+      | inr x ↦ inr (inr x)
+    ]);
+    convex = inner_convex;
+    no_vertex = λ v h s. elim (where_at v) [
+      | inl x ↦ out _ (turn_none v (next n v)) (strictly_at points (inner i j) v (next n v) (R v) (inner_goes n i j chord.far chord.low v x.0 x.1) s)
+      | inr x ↦ out _ (back_side v (weaker v x) h) (strictly_at points (inner i j) j i (R v) (inner_closes n i j chord.far chord.low) s)
+    ];
+    no_point = λ e s t h some. by_edge (λ x. IsMixStrictlyIn (corners points (inner i j)) s (first_point points x) t (last_point points x) → ⊥)
+      (λ k l m. elim (where_at k) [
+        | inl x ↦ mixed_out s t _ _ (turn_none k (next n k)) (turn_end k (next n k)) (mixed_at points (inner i j) k (next n k) s t (R k) (R (next n k)) (inner_goes n i j chord.far chord.low k x.0 x.1) m)
+        | inr x ↦ mixed_out s t _ _ (back_side k (weaker k x) l) (back_side (next n k) (side_next k x l) (next-below n k l)) (mixed_at points (inner i j) j i s t (R k) (R (next n k)) (inner_closes n i j chord.far chord.low) m)
+      ])
+      (λ m. mixed_out s t _ _ (turn_end j i) (turn_none j i) (mixed_at points (inner i j) j i s t (R i) (R j) (inner_closes n i j chord.far chord.low) m))
+      (λ m. mixed_out s t _ _ (turn_none j i) (turn_end j i) (mixed_at points (inner i j) j i s t (R j) (R i) (inner_closes n i j chord.far chord.low) m)) e h;
+  }
+
+  outer_size : length (outer n i j) ≡ i + 1 + (n - j)
+  outer_size = outer_length n i j chord.far chord.low
+
+  outer_convex : IsConvex (corners points (outer n i j))
+  outer_convex = by chord.some_left where
+    rises : Rises n (outer n i j)
+    rises = outer_rises n i j chord.far chord.low
+
+    over : Goes (outer n i j) i j
+    over = outer_crosses n i j chord.far chord.low
+
+    two : 2 ≤ length (outer n i j)
+    two = omega (arith, outer_size, chord.low)
+
+    by : (o : ℕ) × ((o < i) ⊎ (j < o)) × (o < n) × (pos 0 <ℤ turn (R i) (R j) (R o)) → IsConvex (corners points (outer n i j))
+    by (o, h, l, t) = sub_convex points near apart ring (omega (arith, enough)) (outer n i j) rises over.place (next (length (outer n i j)) over.place) at_o.place over.inside (next-below (length (outer n i j)) over.place over.inside) at_o.inside two bent where
+      side : (o < i) ⊎ (j < o) → (o < i) ⊎ (j ≤ o)
+      side (inl x) = inl x
+      side (inr x) = inr (omega (arith, x))
+
+      at_o : Goes (outer n i j) o (next n o)
+      at_o = outer_goes n i j chord.far chord.low o (side h) l
+
+      bent : turn (point_at points (corner (outer n i j) over.place)) (point_at points (corner (outer n i j) (next (length (outer n i j)) over.place))) (point_at points (corner (outer n i j) at_o.place)) ≢ pos 0
+      bent z = let w = subst (λ x. turn (R i) (R j) (R x) ≡ pos 0) at_o.from (subst (λ x. turn (R i) (R x) (point_at points (corner (outer n i j) at_o.place)) ≡ pos 0) over.to (subst (λ x. turn (R x) (point_at points (after (outer n i j) over.place)) (point_at points (corner (outer n i j) at_o.place)) ≡ pos 0) over.from z)) in omega (arith, linear)

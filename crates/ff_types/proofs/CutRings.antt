@@ -28,6 +28,9 @@ module _ (n i j : ℕ) (far : i + 1 < j) (jn : j < n) where
     sum : {a b c d : ℕ} → a ≡ c → b ≡ d → a + b ≡ c + d
     sum {a} {b} {c} {d} e f = omega (arith, e, f)
 
+  pub outer_length : length (outer n i j) ≡ i + 1 + (n - j)
+  outer_length = outer_size
+
   inner_at : (a : ℕ) → a < length (inner i j) → corner (inner i j) a ≡ i + a
   inner_at a h = range_at i (j + 1 - i) a (subst (λ m. a < m) inner_size h)
 
