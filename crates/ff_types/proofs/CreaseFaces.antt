@@ -342,3 +342,102 @@ module _ (points : List Pt) (near : All IsNear points) (apart : AreApart points)
 
       bent : turn (point_at points (corner (outer n i j) over.place)) (point_at points (corner (outer n i j) (next (length (outer n i j)) over.place))) (point_at points (corner (outer n i j) at_o.place)) ≢ pos 0
       bent z = let w = subst (λ x. turn (R i) (R j) (R x) ≡ pos 0) at_o.from (subst (λ x. turn (R i) (R x) (point_at points (corner (outer n i j) at_o.place)) ≡ pos 0) over.to (subst (λ x. turn (R x) (point_at points (after (outer n i j) over.place)) (point_at points (corner (outer n i j) at_o.place)) ≡ pos 0) over.from z)) in omega (arith, linear)
+
+  right_next : (k : ℕ) → i ≤ k → k < j → turn (R i) (R j) (R (next n k)) ≤ℤ pos 0
+  right_next k h l = subst (λ x. turn (R i) (R j) (R x) ≤ℤ pos 0) (sym (between_next k l)) (chord.right (k + 1) (omega (arith, h)) (omega (arith, l)))
+
+  pub outer_ring : IsRing points edges (outer n i j)
+  outer_ring = record {
+    three = three chord.some_left;
+    there = λ a h. (outer_rises n i j chord.far chord.low).low a h;
+    differ = differ (outer n i j) (outer_rises n i j chord.far chord.low);
+    joins = λ a h. joined_by (outer n i j) (corner (outer n i j) a) (after (outer n i j) a) (elim (outer_steps n i j chord.far chord.low _ _ (place_goes (outer n i j) a h)) [
+      | inl x ↦ inl (x.1, x.2)
+      | inr x ↦ inr (inl x)
+    ]);
+    convex = outer_convex;
+    no_vertex = λ v h s. elim (where_at v) [
+      | inl x ↦ out _ (chord.right v x.0 (omega (arith, x.1))) (strictly_at points (outer n i j) i j (R v) (outer_crosses n i j chord.far chord.low) s)
+      | inr x ↦ out _ (turn_none v (next n v)) (strictly_at points (outer n i j) v (next n v) (R v) (outer_goes n i j chord.far chord.low v x h) s)
+    ];
+    no_point = λ e s t h some. by_edge (λ x. IsMixStrictlyIn (corners points (outer n i j)) s (first_point points x) t (last_point points x) → ⊥)
+      (λ k l m. elim (where_at k) [
+        | inl x ↦ mixed_out s t _ _ (chord.right k x.0 (omega (arith, x.1))) (right_next k x.0 x.1) (mixed_at points (outer n i j) i j s t (R k) (R (next n k)) (outer_crosses n i j chord.far chord.low) m)
+        | inr x ↦ mixed_out s t _ _ (turn_none k (next n k)) (turn_end k (next n k)) (mixed_at points (outer n i j) k (next n k) s t (R k) (R (next n k)) (outer_goes n i j chord.far chord.low k x l) m)
+      ])
+      (λ m. mixed_out s t _ _ (turn_none i j) (turn_end i j) (mixed_at points (outer n i j) i j s t (R i) (R j) (outer_crosses n i j chord.far chord.low) m))
+      (λ m. mixed_out s t _ _ (turn_end i j) (turn_none i j) (mixed_at points (outer n i j) i j s t (R j) (R i) (outer_crosses n i j chord.far chord.low) m)) e h;
+  } where
+    three : (o : ℕ) × ((o < i) ⊎ (j < o)) × (o < n) × (pos 0 <ℤ turn (R i) (R j) (R o)) → 3 ≤ length (outer n i j)
+    three (o, inl h, l, t) = omega (arith, outer_size, h, chord.low)
+    three (o, inr h, l, t) = omega (arith, outer_size, h, l)
+
+  -- ---- they are the faces, whichever comes first
+
+  no_common : (u v : ℕ) → Goes (inner i j) u v → Goes (outer n i j) u v → ⊥
+  no_common u v g h = by (inner_steps n i j chord.far chord.low u v g) (outer_steps n i j chord.far chord.low u v h) where
+    by : ((i ≤ u) × (u < j) × (v ≡ next n u)) ⊎ ((u ≡ j) × (v ≡ i)) → (((u < i) ⊎ (j ≤ u)) × (u < n) × (v ≡ next n u)) ⊎ ((u ≡ i) × (v ≡ j)) → ⊥
+    by (inl x) (inl (inl y, z, w)) = omega (arith, x.0, y)
+    by (inl x) (inl (inr y, z, w)) = omega (arith, x.1, y)
+    by (inl x) (inr y) = omega (arith, sym x.2 ∙ y.1, between_next u x.1, y.0, chord.far)
+    by (inr x) (inl y) = chord.apart (ap (next n) (sym x.0) ∙ (sym y.2 ∙ x.1))
+    by (inr x) (inr y) = omega (arith, x.0, y.0, chord.far)
+
+  no_back_inner : (k : ℕ) → k < n → Goes (inner i j) (next n k) k → ⊥
+  no_back_inner k h g = elim (inner_steps n i j chord.far chord.low (next n k) k g) [
+    | inl x ↦ next_back n k enough h (sym x.2)
+    | inr x ↦ (let e = between_next i (omega (arith, chord.far)) in let f = ap (next n) (sym x.1) in let d = x.0 in omega (arith, e, f, d, chord.far))
+  ]
+
+  no_back_outer : (k : ℕ) → k < n → Goes (outer n i j) (next n k) k → ⊥
+  no_back_outer k h g = elim (outer_steps n i j chord.far chord.low (next n k) k g) [
+    | inl x ↦ next_back n k enough h (sym x.2)
+    | inr x ↦ chord.apart (ap (next n) (sym x.1) ∙ x.0)
+  ]
+
+  module _ (marks : List Mark) (border : (e : ℕ) → e < length points → mark_at marks e ≡ B) (crease : mark_at marks (length points) ≢ B) where
+    module _ (rings : List (List ℕ)) (of_inner : (u v : ℕ) → Goes (inner i j) u v → Belongs rings u v) (of_outer : (u v : ℕ) → Goes (outer n i j) u v → Belongs rings u v)
+        (one_of : (u v : ℕ) → Belongs rings u v → Goes (inner i j) u v ⊎ Goes (outer n i j) u v) where
+      step_belongs : (k : ℕ) → k < n → Belongs rings k (next n k)
+      step_belongs k h = elim (where_at k) [ inl x ↦ of_inner k (next n k) (inner_goes n i j chord.far chord.low k x.0 x.1) | inr x ↦ of_outer k (next n k) (outer_goes n i j chord.far chord.low k x h) ]
+
+      none_back : (k : ℕ) → k < n → Belongs rings (next n k) k → ⊥
+      none_back k h b = elim (one_of (next n k) k b) [ inl g ↦ no_back_inner k h g | inr g ↦ no_back_outer k h g ]
+
+      over : Belongs rings i j
+      over = of_outer i j (outer_crosses n i j chord.far chord.low)
+
+      under : Belongs rings j i
+      under = of_inner j i (inner_closes n i j chord.far chord.low)
+
+      fits : (e : ℕ) → e < length edges → FitsMark rings (edge_at edges e) (mark_at marks e)
+      fits e h = elim (which_edge es c e h) [
+        | inl z ↦ (let l : e < n = subst (λ m. e < m) cycle.as_many z.0 in subst (λ m. FitsMark rings (edge_at edges e) m) (sym (border e l)) (subst (λ k. FitsMark rings k B) (sym (at_step e l)) (inl (step_belongs e l, none_back e l))))
+        | inr z ↦ subst (λ k. FitsMark rings k (mark_at marks e)) (sym z.1) (elim ends [
+          | inl w ↦ subst (λ k. FitsMark rings k (mark_at marks e)) (sym w) (not_border rings (record { a = i; b = j }) (mark_at marks e) (creased z.0) over under)
+          | inr w ↦ subst (λ k. FitsMark rings k (mark_at marks e)) (sym w) (not_border rings (record { a = j; b = i }) (mark_at marks e) (creased z.0) under over)
+        ])
+      ] where
+        creased : e ≡ length es → mark_at marks e ≢ B
+        creased x y = crease (ap (mark_at marks) (sym (x ∙ cycle.as_many)) ∙ y)
+
+      outside_is : (u v : ℕ) → IsOuter edges rings u v → (v < n) × (u ≡ next n v)
+      outside_is u v o = by (way u v o.edge) where
+        by : Way n i j u v → (v < n) × (u ≡ next n v)
+        by (forward h e) = absurd (o.none (subst (λ y. Belongs rings u y) (sym e) (step_belongs u h)))
+        by (backward h e) = (h, e)
+        by (across e f) = absurd (o.none (subst (λ x. Belongs rings x v) (sym e) (subst (λ y. Belongs rings i y) (sym f) over)))
+        by (back e f) = absurd (o.none (subst (λ x. Belongs rings x v) (sym e) (subst (λ y. Belongs rings j y) (sym f) under)))
+
+      leave : (u v w : ℕ) → IsOuter edges rings u v → IsOuter edges rings u w → v ≡ w
+      leave u v w a b = let p = outside_is u v a in let q = outside_is u w b in next_once n v w p.0 q.0 (sym p.1 ∙ q.1)
+
+      sweeps : (u v : ℕ) → IsOuter edges rings u v → sweep points (R 0) u v ≤ℤ pos 0
+      sweeps u v o =
+          let p = outside_is u v o in
+          let e = turned_round (R v) (R (next n v)) (R 0) in
+          let l = ring.left v 0 p.0 (omega (arith, enough)) in
+          subst (λ x. sweep points (R 0) x v ≤ℤ pos 0) (sym p.1) (let z : sweep points (R 0) (next n v) v ≤ℤ pos 0 = omega (arith, linear) in z)
+
+      holeless : (walk : List ℕ) → IsOuterWalk edges rings walk → area points walk ≤ℤ pos 0
+      holeless walk w = no_area points (R 0) walk (λ a h. sweeps (corner walk a) (after walk a) (w.steps a h))
