@@ -10,13 +10,13 @@ use Rattle.std.proofs.lemmas.Bool.Decides.{nat_tests}
 use Rattle.ff_whole.specs.declared.points.Pt.{Pt}
 use Rattle.ff_whole.specs.declared.sizes.TheConstants.{POINT_SIZE}
 use Rattle.ff_whole.specs.Points.{minus, cross, turn, mix, IsNear, origin}
-use Rattle.ff_whole.specs.Convex.{next, point_at, left_of, AreApart, IsConvex}
+use Rattle.ff_whole.specs.Convex.{next, point_at, AreApart, IsConvex}
 use Rattle.ff_whole.specs.Turning.{rank, AreCorners}
 use Rattle.ff_whole.proofs.Ring.{var, num, ◌⊕◌, ◌⊖◌, ◌⊗◌, opp, solve}
 use Rattle.ff_whole.proofs.Signs.{linear, by_sign, nonneg-mul, nonneg-mul_nonpos, pos-mul, neg-mul_pos}
 use Rattle.ff_whole.proofs.Directions.{rank-minus, turn-step, turn-first}
 use Rattle.ff_whole.proofs.Ranks.{rank-same}
-use Rattle.ff_whole.proofs.ClosedLists.{next-below, next-apart, next-alone, walk, walk-below, walk-back, walk-to}
+use Rattle.ff_whole.proofs.ClosedLists.{next-below, next-apart, walk, walk-below, walk-back, walk-to}
 use Rattle.ff_whole.proofs.ConvexRings.{corners_from_convex}
 
 -- ---- a least place
@@ -82,7 +82,7 @@ rank_mixed a b s t = solve (pos (POINT_SIZE + POINT_SIZE) ∷ a.x ∷ a.y ∷ b.
 before : (s t x y p q m n : ℤ) → s +ℤ t ≡ x +ℤ y → pos 0 ≤ℤ s → pos 0 ≤ℤ (x +ℤ y) → pos 0 <ℤ y → p <ℤ q → q ≤ℤ m → m <ℤ n → s *ℤ p +ℤ t *ℤ q ≡ x *ℤ m +ℤ y *ℤ n → ⊥
 before s t x y p q m n e a b c f g h k =
     let i = solve (s ∷ t ∷ x ∷ y ∷ p ∷ q ∷ m ∷ n ∷ []) ((var 2 ⊗ var 6 ⊕ var 3 ⊗ var 7) ⊖ (var 0 ⊗ var 4 ⊕ var 1 ⊗ var 5))
-      ((var 0 ⊗ (var 5 ⊖ var 4) ⊕ (var 2 ⊕ var 3) ⊗ (var 6 ⊖ var 5) ⊕ var 3 ⊗ (var 7 ⊖ var 6)) ⊕ ((var 2 ⊕ var 3) ⊖ (var 0 ⊕ var 1)) ⊗ var 5) refl in
+    ((var 0 ⊗ (var 5 ⊖ var 4) ⊕ (var 2 ⊕ var 3) ⊗ (var 6 ⊖ var 5) ⊕ var 3 ⊗ (var 7 ⊖ var 6)) ⊕ ((var 2 ⊕ var 3) ⊖ (var 0 ⊕ var 1)) ⊗ var 5) refl in
     let z : (x +ℤ y) -ℤ (s +ℤ t) ≡ pos 0 = omega (arith, linear) in
     let o = ap (λ v. v *ℤ q) z ∙ zero-*ℤ q in
     let u = nonneg-mul s (q -ℤ p) a (omega (arith, linear)) in
@@ -93,7 +93,7 @@ before s t x y p q m n e a b c f g h k =
 after : (s t x y p q m n : ℤ) → s +ℤ t ≡ x +ℤ y → pos 0 ≤ℤ t → pos 0 ≤ℤ (x +ℤ y) → pos 0 <ℤ x → p <ℤ q → n ≤ℤ p → m <ℤ n → s *ℤ p +ℤ t *ℤ q ≡ x *ℤ m +ℤ y *ℤ n → ⊥
 after s t x y p q m n e a b c f g h k =
     let i = solve (s ∷ t ∷ x ∷ y ∷ p ∷ q ∷ m ∷ n ∷ []) ((var 0 ⊗ var 4 ⊕ var 1 ⊗ var 5) ⊖ (var 2 ⊗ var 6 ⊕ var 3 ⊗ var 7))
-      ((var 1 ⊗ (var 5 ⊖ var 4) ⊕ (var 2 ⊕ var 3) ⊗ (var 4 ⊖ var 7) ⊕ var 2 ⊗ (var 7 ⊖ var 6)) ⊕ ((var 0 ⊕ var 1) ⊖ (var 2 ⊕ var 3)) ⊗ var 4) refl in
+    ((var 1 ⊗ (var 5 ⊖ var 4) ⊕ (var 2 ⊕ var 3) ⊗ (var 4 ⊖ var 7) ⊕ var 2 ⊗ (var 7 ⊖ var 6)) ⊕ ((var 0 ⊕ var 1) ⊖ (var 2 ⊕ var 3)) ⊗ var 4) refl in
     let z : (s +ℤ t) -ℤ (x +ℤ y) ≡ pos 0 = omega (arith, linear) in
     let o = ap (λ v. v *ℤ p) z ∙ zero-*ℤ p in
     let u = nonneg-mul t (q -ℤ p) a (omega (arith, linear)) in

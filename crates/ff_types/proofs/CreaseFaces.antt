@@ -1,15 +1,13 @@
 -- A convex ring cut by a chord has two faces, the corners on either side of it.
-use Rattle.std.proofs.Common.{◌≡◌, ◌≢◌, ℕ, zero, suc, ◌+◌, ◌-◌, ◌<◌, ◌≤◌, ◌==◌, ◌⊎◌, inl, inr, refl, sym, ◌∙◌, ap, subst, arith, lit<, ℤ, pos, ◌+ℤ◌, ◌-ℤ◌, ◌*ℤ◌, ◌<ℤ◌, ◌≤ℤ◌, Bool, true, false, ◌&&◌, ◌||◌, IsTrue, List, [], ◌∷◌, ◌++◌, length, Some, None, Option, nat_lt}
-use Rattle.std.specs.Prelude.{neg_ℤ}
+use Rattle.std.proofs.Common.{◌≡◌, ◌≢◌, ℕ, zero, suc, ◌+◌, ◌-◌, ◌<◌, ◌≤◌, ◌==◌, ◌⊎◌, inl, inr, refl, sym, ◌∙◌, ap, subst, arith, lit<, ℤ, pos, ◌+ℤ◌, ◌*ℤ◌, ◌<ℤ◌, ◌≤ℤ◌, Bool, true, false, ◌&&◌, ◌||◌, IsTrue, List, [], ◌∷◌, ◌++◌, length, Some, nat_lt}
 use Rattle.std.proofs.lemmas.Int.{ints}
-use lib.IntN.{*ℤ-zero}
 use Rattle.std.specs.List.{All}
-use Rattle.std.proofs.lemmas.Bool.{false≢true, cases_lt, lt-ltb}
+use Rattle.std.proofs.lemmas.Bool.{cases_lt, lt-ltb}
 use Rattle.std.proofs.lemmas.Bool.Decides.{nat_tests}
 use Rattle.std.proofs.lemmas.List.{length-map}
 use Rattle.std.proofs.lemmas.List.FromFn.{get_or-range_with_len, length-range_with_len}
 use Rattle.ff_whole.specs.declared.points.Pt.{Pt}
-use Rattle.ff_whole.specs.Points.{minus, cross, turn, IsNear, origin}
+use Rattle.ff_whole.specs.Points.{turn, IsNear}
 use Rattle.ff_whole.specs.Convex.{next, point_at, left_of, AreApart, IsConvex}
 use Rattle.ff_whole.proofs.Signs.{linear, nonneg-mul_nonpos}
 use Rattle.ff_whole.proofs.Directions.{turn-first}
@@ -21,12 +19,12 @@ use Rattle.ff_types.specs.Patterns.{edge_at}
 use Rattle.ff_types.specs.Drawings.{joins, joined, first_point, last_point}
 use Rattle.ff_types.specs.Rings.{corner, after, corners, Goes, IsRing, IsStrictlyIn, IsMixStrictlyIn}
 use Rattle.ff_types.specs.Areas.{area}
-use Rattle.ff_types.specs.Faces.{ring_at, mark_at, Belongs, Share, IsOuter, IsOuterWalk, FitsMark, FitMarks, AreRings, AreChained, list_before}
-use Rattle.ff_types.proofs.Computing.{either, equal_itself}
+use Rattle.ff_types.specs.Faces.{ring_at, mark_at, Belongs, IsOuter, IsOuterWalk, FitsMark, AreRings, AreChained, list_before}
+use Rattle.ff_types.proofs.Computing.{equal_itself}
 use Rattle.ff_types.proofs.ComputedFaces.{joins_is}
 use Rattle.ff_types.proofs.ConvexEdges.{turn-last, turn_cycled, turn_swapped}
 use Rattle.ff_types.proofs.SubRings.{Rises, corner_point, sub_convex}
-use Rattle.ff_types.proofs.CutRings.{inner, outer, inner_rises, outer_rises, inner_goes, inner_closes, inner_steps, outer_goes, outer_crosses, outer_steps, outer_length}
+use Rattle.ff_types.proofs.CutRings.{inner, outer, inner_rises, outer_rises, inner_goes, inner_closes, inner_steps, outer_goes, outer_crosses, outer_steps, outer_length, outer_first, outer_second}
 use Rattle.ff_types.proofs.PlainSheets.{IsCycle, sweep, no_area, joined_at, some_joins, joins_itself, turned_round, next_once, next_back}
 use Rattle.ff_types.proofs.OneCrease.{IsChord, which_edge, at_front, at_end, longer}
 
@@ -309,12 +307,12 @@ module _ (points : List Pt) (near : All IsNear points) (apart : AreApart points)
       | inr x ↦ out _ (back_side v (weaker v x) h) (strictly_at points (inner i j) j i (R v) (inner_closes n i j chord.far chord.low) s)
     ];
     no_point = λ e s t h some. by_edge (λ x. IsMixStrictlyIn (corners points (inner i j)) s (first_point points x) t (last_point points x) → ⊥)
-      (λ k l m. elim (where_at k) [
-        | inl x ↦ mixed_out s t _ _ (turn_none k (next n k)) (turn_end k (next n k)) (mixed_at points (inner i j) k (next n k) s t (R k) (R (next n k)) (inner_goes n i j chord.far chord.low k x.0 x.1) m)
-        | inr x ↦ mixed_out s t _ _ (back_side k (weaker k x) l) (back_side (next n k) (side_next k x l) (next-below n k l)) (mixed_at points (inner i j) j i s t (R k) (R (next n k)) (inner_closes n i j chord.far chord.low) m)
-      ])
-      (λ m. mixed_out s t _ _ (turn_end j i) (turn_none j i) (mixed_at points (inner i j) j i s t (R i) (R j) (inner_closes n i j chord.far chord.low) m))
-      (λ m. mixed_out s t _ _ (turn_none j i) (turn_end j i) (mixed_at points (inner i j) j i s t (R j) (R i) (inner_closes n i j chord.far chord.low) m)) e h;
+        (λ k l m. elim (where_at k) [
+          | inl x ↦ mixed_out s t _ _ (turn_none k (next n k)) (turn_end k (next n k)) (mixed_at points (inner i j) k (next n k) s t (R k) (R (next n k)) (inner_goes n i j chord.far chord.low k x.0 x.1) m)
+          | inr x ↦ mixed_out s t _ _ (back_side k (weaker k x) l) (back_side (next n k) (side_next k x l) (next-below n k l)) (mixed_at points (inner i j) j i s t (R k) (R (next n k)) (inner_closes n i j chord.far chord.low) m)
+        ])
+        (λ m. mixed_out s t _ _ (turn_end j i) (turn_none j i) (mixed_at points (inner i j) j i s t (R i) (R j) (inner_closes n i j chord.far chord.low) m))
+        (λ m. mixed_out s t _ _ (turn_none j i) (turn_end j i) (mixed_at points (inner i j) j i s t (R j) (R i) (inner_closes n i j chord.far chord.low) m)) e h;
   }
 
   outer_size : length (outer n i j) ≡ i + 1 + (n - j)
@@ -361,12 +359,12 @@ module _ (points : List Pt) (near : All IsNear points) (apart : AreApart points)
       | inr x ↦ out _ (turn_none v (next n v)) (strictly_at points (outer n i j) v (next n v) (R v) (outer_goes n i j chord.far chord.low v x h) s)
     ];
     no_point = λ e s t h some. by_edge (λ x. IsMixStrictlyIn (corners points (outer n i j)) s (first_point points x) t (last_point points x) → ⊥)
-      (λ k l m. elim (where_at k) [
-        | inl x ↦ mixed_out s t _ _ (chord.right k x.0 (omega (arith, x.1))) (right_next k x.0 x.1) (mixed_at points (outer n i j) i j s t (R k) (R (next n k)) (outer_crosses n i j chord.far chord.low) m)
-        | inr x ↦ mixed_out s t _ _ (turn_none k (next n k)) (turn_end k (next n k)) (mixed_at points (outer n i j) k (next n k) s t (R k) (R (next n k)) (outer_goes n i j chord.far chord.low k x l) m)
-      ])
-      (λ m. mixed_out s t _ _ (turn_none i j) (turn_end i j) (mixed_at points (outer n i j) i j s t (R i) (R j) (outer_crosses n i j chord.far chord.low) m))
-      (λ m. mixed_out s t _ _ (turn_end i j) (turn_none i j) (mixed_at points (outer n i j) i j s t (R j) (R i) (outer_crosses n i j chord.far chord.low) m)) e h;
+        (λ k l m. elim (where_at k) [
+          | inl x ↦ mixed_out s t _ _ (chord.right k x.0 (omega (arith, x.1))) (right_next k x.0 x.1) (mixed_at points (outer n i j) i j s t (R k) (R (next n k)) (outer_crosses n i j chord.far chord.low) m)
+          | inr x ↦ mixed_out s t _ _ (turn_none k (next n k)) (turn_end k (next n k)) (mixed_at points (outer n i j) k (next n k) s t (R k) (R (next n k)) (outer_goes n i j chord.far chord.low k x l) m)
+        ])
+        (λ m. mixed_out s t _ _ (turn_none i j) (turn_end i j) (mixed_at points (outer n i j) i j s t (R i) (R j) (outer_crosses n i j chord.far chord.low) m))
+        (λ m. mixed_out s t _ _ (turn_end i j) (turn_none i j) (mixed_at points (outer n i j) i j s t (R j) (R i) (outer_crosses n i j chord.far chord.low) m)) e h;
   } where
     three : (o : ℕ) × ((o < i) ⊎ (j < o)) × (o < n) × (pos 0 <ℤ turn (R i) (R j) (R o)) → 3 ≤ length (outer n i j)
     three (o, inl h, l, t) = omega (arith, outer_size, h, chord.low)
@@ -441,3 +439,59 @@ module _ (points : List Pt) (near : All IsNear points) (apart : AreApart points)
 
       holeless : (walk : List ℕ) → IsOuterWalk edges rings walk → area points walk ≤ℤ pos 0
       holeless walk w = no_area points (R 0) walk (λ a h. sweeps (corner walk a) (after walk a) (w.steps a h))
+
+    -- from the first corner the crease leads: the corners between come first
+    pub crease_from_first : i ≡ 0 → AreRings points edges (Some marks) (inner i j ∷ outer n i j ∷ [])
+    crease_from_first zero_is = two_rings points edges marks (inner i j) (outer n i j) (record {
+      first = inner_ring;
+      second = outer_ring;
+      apart = no_common;
+      shared = (j, i, inner_closes n i j chord.far chord.low, outer_crosses n i j chord.far chord.low);
+      fit = fits (inner i j ∷ outer n i j ∷ []) of_inner of_outer one_of;
+      leaves = leave (inner i j ∷ outer n i j ∷ []) of_inner of_outer one_of;
+      no_hole = holeless (inner i j ∷ outer n i j ∷ []) of_inner of_outer one_of;
+      first_least = least_of n (inner i j) (inner_rises n i j chord.far chord.low);
+      second_least = least_of n (outer n i j) (outer_rises n i j chord.far chord.low);
+      sorted = before_second (inner i j) (outer n i j) (omega (arith, inner_long)) (omega (arith, outer_size, chord.low)) same_start later;
+    }) where
+      of_inner : (u v : ℕ) → Goes (inner i j) u v → Belongs (inner i j ∷ outer n i j ∷ []) u v
+      of_inner u v g = (0, lit< tt, g)
+
+      of_outer : (u v : ℕ) → Goes (outer n i j) u v → Belongs (inner i j ∷ outer n i j ∷ []) u v
+      of_outer u v g = (1, lit< tt, g)
+
+      one_of : (u v : ℕ) → Belongs (inner i j ∷ outer n i j ∷ []) u v → Goes (inner i j) u v ⊎ Goes (outer n i j) u v
+      one_of u v (zero, h, g) = inl g
+      one_of u v (suc zero, h, g) = inr g
+      one_of u v (suc (suc f), h, g) = absurd (omega (arith, h))
+
+      same_start : corner (inner i j) 0 ≡ corner (outer n i j) 0
+      same_start = inner_at 0 (omega (arith, inner_long)) ∙ (ap (λ x. x + 0) zero_is ∙ sym (outer_first n i j chord.far chord.low 0 (omega arith)))
+
+      later : corner (inner i j) 1 < corner (outer n i j) 1
+      later = let e = inner_at 1 (omega (arith, inner_long)) in let f = outer_second n i j chord.far chord.low zero_is in omega (arith, e, f, zero_is, chord.far)
+
+    -- and else the others do
+    pub crease_from_later : 0 < i → AreRings points edges (Some marks) (outer n i j ∷ inner i j ∷ [])
+    crease_from_later some = two_rings points edges marks (outer n i j) (inner i j) (record {
+      first = outer_ring;
+      second = inner_ring;
+      apart = λ u v a b. no_common u v b a;
+      shared = (i, j, outer_crosses n i j chord.far chord.low, inner_closes n i j chord.far chord.low);
+      fit = fits (outer n i j ∷ inner i j ∷ []) of_inner of_outer one_of;
+      leaves = leave (outer n i j ∷ inner i j ∷ []) of_inner of_outer one_of;
+      no_hole = holeless (outer n i j ∷ inner i j ∷ []) of_inner of_outer one_of;
+      first_least = least_of n (outer n i j) (outer_rises n i j chord.far chord.low);
+      second_least = least_of n (inner i j) (inner_rises n i j chord.far chord.low);
+      sorted = before_first (outer n i j) (inner i j) (omega (arith, outer_size, chord.low)) (omega (arith, inner_long)) (let e = inner_at 0 (omega (arith, inner_long)) in let f = outer_first n i j chord.far chord.low 0 (omega arith) in omega (arith, e, f, some));
+    }) where
+      of_inner : (u v : ℕ) → Goes (inner i j) u v → Belongs (outer n i j ∷ inner i j ∷ []) u v
+      of_inner u v g = (1, lit< tt, g)
+
+      of_outer : (u v : ℕ) → Goes (outer n i j) u v → Belongs (outer n i j ∷ inner i j ∷ []) u v
+      of_outer u v g = (0, lit< tt, g)
+
+      one_of : (u v : ℕ) → Belongs (outer n i j ∷ inner i j ∷ []) u v → Goes (inner i j) u v ⊎ Goes (outer n i j) u v
+      one_of u v (zero, h, g) = inr g
+      one_of u v (suc zero, h, g) = inl g
+      one_of u v (suc (suc f), h, g) = absurd (omega (arith, h))

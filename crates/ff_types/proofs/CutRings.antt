@@ -1,12 +1,12 @@
 -- The two lists of corners on either side of a chord from i to j.
-use Rattle.std.proofs.Common.{◌≡◌, ◌≢◌, ℕ, zero, suc, ◌+◌, ◌-◌, ◌<◌, ◌≤◌, ◌⊎◌, inl, inr, refl, sym, ◌∙◌, ap, subst, arith, List, [], ◌∷◌, ◌++◌, length, get_or, nat_lt}
+use Rattle.std.proofs.Common.{◌≡◌, ℕ, ◌+◌, ◌-◌, ◌<◌, ◌≤◌, ◌⊎◌, inl, inr, sym, ◌∙◌, ap, subst, arith, List, ◌++◌, length}
 use Rattle.std.specs.List.{range_with_len}
 use Rattle.std.proofs.lemmas.Bool.{cases_lt}
 use Rattle.std.proofs.lemmas.Bool.Decides.{nat_tests}
 use Rattle.std.proofs.lemmas.List.{length-append, get_or_append_left, get_or-append_right}
 use Rattle.std.proofs.lemmas.List.FromFn.{get_or-range_with_len, length-range_with_len}
 use Rattle.ff_whole.specs.Convex.{next}
-use Rattle.ff_types.specs.Rings.{corner, after, Goes}
+use Rattle.ff_types.specs.Rings.{corner, Goes}
 use Rattle.ff_types.proofs.SubRings.{Rises}
 
 -- from i on to j; and from 0 on to i, and from j on to the last
@@ -41,6 +41,14 @@ module _ (n i j : ℕ) (far : i + 1 < j) (jn : j < n) where
 
   outer_back : (a : ℕ) → i + 1 ≤ a → a < length (outer n i j) → corner (outer n i j) a ≡ j + (a - (i + 1))
   outer_back a h l = get_or-append_right (range_with_len 0 (i + 1)) (range_with_len j (n - j)) (i + 1) a 0 (length-range_with_len 0 (i + 1)) h ∙ range_at j (n - j) (a - (i + 1)) (omega (arith, h, l, outer_size))
+
+  pub outer_first : (a : ℕ) → a < i + 1 → corner (outer n i j) a ≡ a
+  outer_first a h = outer_front a h
+
+  pub outer_second : i ≡ 0 → corner (outer n i j) 1 ≡ j
+  outer_second e = outer_back 1 (omega (arith, e)) (omega (arith, outer_size, e, jn)) ∙ first e where
+    first : i ≡ 0 → j + (1 - (i + 1)) ≡ j
+    first e = omega (arith, e)
 
   -- ---- they rise
 

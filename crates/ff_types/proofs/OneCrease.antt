@@ -1,15 +1,14 @@
 -- A convex ring with one more edge between two of its corners is a drawing, where on each side of that edge a corner lies.
-use Rattle.std.proofs.Common.{◌≡◌, ◌≢◌, ℕ, zero, suc, ◌+◌, ◌-◌, ◌<◌, ◌≤◌, ◌==◌, ◌⊎◌, inl, inr, refl, sym, ◌∙◌, ap, subst, arith, lit<, ℤ, pos, ◌+ℤ◌, ◌-ℤ◌, ◌*ℤ◌, ◌<ℤ◌, ◌≤ℤ◌, Bool, true, false, ◌&&◌, ◌||◌, IsTrue, List, [], ◌∷◌, ◌++◌, length, get_or}
-use Rattle.std.specs.Prelude.{neg_ℤ}
+use Rattle.std.proofs.Common.{◌≡◌, ◌≢◌, ℕ, zero, suc, ◌+◌, ◌-◌, ◌<◌, ◌≤◌, ◌==◌, ◌⊎◌, inl, inr, refl, sym, ◌∙◌, ap, subst, arith, ℤ, pos, ◌+ℤ◌, ◌*ℤ◌, ◌<ℤ◌, ◌≤ℤ◌, Bool, true, false, ◌&&◌, ◌||◌, IsTrue, List, [], ◌∷◌, ◌++◌, length}
 use lib.IntN.{*ℤ_comm, *ℤ-zero, zero-*ℤ}
 use Rattle.std.specs.List.{All}
 use Rattle.std.proofs.lemmas.Int.{ints, by_lt_z}
-use Rattle.std.proofs.lemmas.Bool.{false≢true, cases_lt, eqb-true, eqb-false}
+use Rattle.std.proofs.lemmas.Bool.{cases_lt, eqb-true, eqb-false}
 use Rattle.std.proofs.lemmas.Bool.Decides.{nat_tests}
 use Rattle.std.proofs.lemmas.List.{length-append, get_or_append_left, get_or-append_right}
 use Rattle.ff_whole.specs.declared.points.Pt.{Pt}
 use Rattle.ff_whole.specs.Points.{minus, cross, turn, mix, IsNear, origin}
-use Rattle.ff_whole.specs.Convex.{next, point_at, left_of, AreApart, IsConvex}
+use Rattle.ff_whole.specs.Convex.{next, point_at, AreApart, IsConvex}
 use Rattle.ff_whole.specs.Turning.{rank}
 use Rattle.ff_whole.proofs.Signs.{linear, by_sign, nonneg-mul, nonneg-mul_nonpos, pos-mul, neg-mul_pos, neg-mul_neg, pos-mul_neg}
 use Rattle.ff_whole.proofs.Directions.{rank-minus, turn-step, turn-first}
@@ -17,8 +16,8 @@ use Rattle.ff_whole.proofs.Ranks.{rank-same}
 use Rattle.ff_whole.proofs.ClosedLists.{next-below, next-apart}
 use Rattle.ff_types.specs.declared.patterns.EdgeEnds.{EdgeEnds}
 use Rattle.ff_types.specs.Patterns.{edge_at, Joins}
-use Rattle.ff_types.specs.Drawings.{IsDrawing, MeetAtEnds, Common, IsEnd, HasTwoEdges, joins, joined, has_end, first_point, last_point}
-use Rattle.ff_types.proofs.Computing.{both, either, equal_itself}
+use Rattle.ff_types.specs.Drawings.{IsDrawing, MeetAtEnds, IsEnd, HasTwoEdges, joins, has_end}
+use Rattle.ff_types.proofs.Computing.{equal_itself}
 use Rattle.ff_types.proofs.ComputedFaces.{joins_is}
 use Rattle.ff_types.proofs.ConvexEdges.{inside_alone, turn_mixed, turn-last, turn_cycled, turn_swapped, exchange, corners_turn, none}
 use Rattle.ff_types.proofs.PlainSheets.{IsCycle, plain_drawing}
@@ -168,9 +167,9 @@ module _ (points : List Pt) (near : All IsNear points) (apart : AreApart points)
     by : (b : Bool) → (w == k) ≡ b → ⊥
     by true t = let r = before n w (omega (arith, enough)) h in
         inside_alone points near apart ring (omega (arith, enough)) r.0 k r.1 l (λ z. r.3 (z ∙ sym (eqb-true w k t))) 0 x u v (sums e)
-          (subst (λ y. mix 0 (R r.0) x (R y) ≡ mix u (R k) v (R (next n k))) (sym r.2) (mix_turned 0 x (R r.0) (R w) ∙ (mix_alone x (R w) (R r.0) q ∙ m))) f g where
-      sums : x ≡ u + v → 0 + x ≡ u + v
-      sums e = omega (arith, e)
+        (subst (λ y. mix 0 (R r.0) x (R y) ≡ mix u (R k) v (R (next n k))) (sym r.2) (mix_turned 0 x (R r.0) (R w) ∙ (mix_alone x (R w) (R r.0) q ∙ m))) f g where
+          sums : x ≡ u + v → 0 + x ≡ u + v
+          sums e = omega (arith, e)
     by false t = inside_alone points near apart ring (omega (arith, enough)) w k h l (eqb-false w k t) x 0 u v (omega (arith, e)) (mix_alone x (R w) (R (next n w)) q ∙ m) f g
 
   module _ (i j m o : ℕ) (ij : i < j) (jn : j < n) (im : i < m) (mj : m < j) (right : turn (R i) (R j) (R m) <ℤ pos 0) (on : o < n) (left : pos 0 <ℤ turn (R i) (R j) (R o)) where
@@ -193,8 +192,8 @@ module _ (points : List Pt) (near : All IsNear points) (apart : AreApart points)
         let xz = ap (λ z. rank (minus (R m) (R i)) *ℤ z) along ∙ *ℤ-zero (rank (minus (R m) (R i))) in
         let yz = ap (λ z. rank (minus (R o) (R i)) *ℤ z) along ∙ *ℤ-zero (rank (minus (R o) (R i))) in
         two_sides (rank (minus (R (next n k)) (R k))) (rank (minus (R j) (R i))) (cross (minus (R (next n k)) (R k)) (minus (R m) (R i))) (cross (minus (R (next n k)) (R k)) (minus (R o) (R i)))
-          (cross (minus (R j) (R i)) (minus (R m) (R i))) (cross (minus (R j) (R i)) (minus (R o) (R i))) (omega (arith, linear)) (omega (arith, linear)) right left (omega (arith, linear)) (omega (arith, linear))
-          (λ z. next-apart n k (omega (arith, enough)) h (sym (apart.differ k (next n k) h (next-below n k h) (rank-same (R k) (R (next n k)) (near k origin h) (near (next n k) origin (next-below n k h)) (let r = rank-minus (R k) (R (next n k)) in omega (arith, linear))))))
+        (cross (minus (R j) (R i)) (minus (R m) (R i))) (cross (minus (R j) (R i)) (minus (R o) (R i))) (omega (arith, linear)) (omega (arith, linear)) right left (omega (arith, linear)) (omega (arith, linear))
+        (λ z. next-apart n k (omega (arith, enough)) h (sym (apart.differ k (next n k) h (next-below n k h) (rank-same (R k) (R (next n k)) (near k origin h) (near (next n k) origin (next-below n k h)) (let r = rank-minus (R k) (R (next n k)) in omega (arith, linear))))))
 
     -- a point of the chord and of an edge is an end of both
     chord_meets : (k : ℕ) → k < n → MeetAtEnds points (record { a = i; b = j }) (record { a = k; b = next n k })

@@ -1,19 +1,19 @@
 -- A convex ring of different points whose edges join each vertex to the next, all marked as border, is a drawing with one
 -- face, whose folding has scale 1 and the points themselves.
-use Rattle.std.proofs.Common.{◌≡◌, ◌≢◌, ℕ, zero, suc, ◌+◌, ◌-◌, ◌<◌, ◌≤◌, ◌==◌, ◌⊎◌, inl, inr, refl, sym, ◌∙◌, ap, subst, arith, lit<, ℤ, pos, ◌+ℤ◌, ◌-ℤ◌, ◌*ℤ◌, ◌<ℤ◌, ◌≤ℤ◌, Bool, true, false, ◌&&◌, ◌||◌, IsTrue, List, [], ◌∷◌, map, length, Some, None, nat_lt}
-use Rattle.std.specs.Prelude.{neg_ℤ, slice_index_or}
+use Rattle.std.proofs.Common.{◌≡◌, ◌≢◌, ℕ, zero, suc, ◌+◌, ◌-◌, ◌<◌, ◌≤◌, ◌==◌, ◌⊎◌, inl, inr, refl, sym, ◌∙◌, ap, subst, arith, lit<, ℤ, pos, ◌+ℤ◌, ◌-ℤ◌, ◌*ℤ◌, ◌<ℤ◌, ◌≤ℤ◌, Bool, true, false, ◌||◌, IsTrue, List, [], ◌∷◌, length, Some, None}
+use Rattle.std.specs.Prelude.{neg_ℤ}
 use lib.IntN.{*ℤ-zero}
 use Rattle.ff_whole.proofs.Laws.{one-*ℤ}
 use Rattle.std.specs.List.{All, range_with_len}
 use Rattle.std.proofs.lemmas.Int.{ints}
-use Rattle.std.proofs.lemmas.Bool.{false≢true, eqb-true}
+use Rattle.std.proofs.lemmas.Bool.{false≢true}
 use Rattle.std.proofs.lemmas.Bool.Decides.{nat_tests}
 use Rattle.std.proofs.lemmas.List.{ext_get_or}
 use Rattle.std.proofs.lemmas.List.FromFn.{get_or-range_with_len, length-range_with_len, length-map-range_with_len, get_or-map-range_with_len}
 use Rattle.ff_whole.specs.declared.points.Pt.{Pt}
-use Rattle.ff_whole.specs.Points.{minus, cross, turn, mix, IsNear, origin}
+use Rattle.ff_whole.specs.Points.{minus, cross, turn, IsNear, origin}
 use Rattle.ff_whole.specs.Convex.{next, point_at, left_of, AreApart, IsConvex}
-use Rattle.ff_whole.proofs.Ring.{var, num, ◌⊕◌, ◌⊖◌, ◌⊗◌, opp, solve}
+use Rattle.ff_whole.proofs.Ring.{var, ◌⊕◌, ◌⊖◌, ◌⊗◌, opp, solve}
 use Rattle.ff_whole.proofs.Signs.{linear}
 use Rattle.ff_whole.proofs.Directions.{turn-first}
 use Rattle.ff_whole.proofs.ClosedLists.{next-below, next-apart}
@@ -22,13 +22,13 @@ use Rattle.ff_types.specs.declared.patterns.Mark.{Mark}
 use Rattle.ff_types.specs.declared.patterns.Mark.TheVariants.{B}
 use Rattle.ff_types.specs.declared.faces.EdgeSides.{EdgeSides}
 use Rattle.ff_types.specs.Patterns.{edge_at, Joins}
-use Rattle.ff_types.specs.Drawings.{IsDrawing, MeetAtEnds, Common, IsEnd, HasTwoEdges, joins, joined, has_end, first_point, last_point}
+use Rattle.ff_types.specs.Drawings.{IsDrawing, MeetAtEnds, IsEnd, HasTwoEdges, joins, joined, has_end, first_point, last_point}
 use Rattle.ff_types.specs.Rings.{corner, after, corners, Goes, IsRing, IsStrictlyIn, IsMixStrictlyIn}
 use Rattle.ff_types.specs.Areas.{area, area_from}
 use Rattle.ff_types.specs.Faces.{ring_at, mark_at, Belongs, IsOuter, IsOuterWalk, FitsMark, AreRings}
 use Rattle.ff_types.specs.Sides.{sides_at, AreSides, AreFaces}
 use Rattle.ff_types.specs.Foldings.{IsFolding, FitFlags, KeepsShape, RingKeepsShape, is_up, scaled}
-use Rattle.ff_types.proofs.Computing.{both, either, equal_itself}
+use Rattle.ff_types.proofs.Computing.{either, equal_itself}
 use Rattle.ff_types.proofs.ComputedFaces.{joins_is, next_inner, next_last}
 use Rattle.ff_types.proofs.ComputedFoldings.{least_one}
 use Rattle.ff_types.proofs.ConvexEdges.{inside_alone, turn-last}
@@ -121,8 +121,8 @@ pub no_area : (points : List Pt) (q : Pt) (walk : List ℕ) → ((i : ℕ) → i
 no_area points q [] steps = omega (arith, linear)
 no_area points q (u ∷ rest) steps =
     let a = area_bounded points q u u rest
-        (λ i h. subst (λ k. sweep points q (corner (u ∷ rest) i) (corner (u ∷ rest) k) ≤ℤ pos 0) (next_inner (length (u ∷ rest)) i h) (steps i (omega (arith, h))))
-        (subst (λ k. sweep points q (corner (u ∷ rest) (length rest)) (corner (u ∷ rest) k) ≤ℤ pos 0) (next_last (length rest)) (steps (length rest) (omega arith))) in omega (arith, linear)
+    (λ i h. subst (λ k. sweep points q (corner (u ∷ rest) i) (corner (u ∷ rest) k) ≤ℤ pos 0) (next_inner (length (u ∷ rest)) i h) (steps i (omega (arith, h))))
+    (subst (λ k. sweep points q (corner (u ∷ rest) (length rest)) (corner (u ∷ rest) k) ≤ℤ pos 0) (next_last (length rest)) (steps (length rest) (omega arith))) in omega (arith, linear)
 
 -- ---- the law
 
@@ -208,12 +208,12 @@ module _ (points : List Pt) (edges : List EdgeEnds) (near : All IsNear points) (
     there = λ i h. subst (λ v. v < n) (sym (corner_is n i (in_size i h))) (in_size i h);
     differ = λ i j h l e. sym (corner_is n i (in_size i h)) ∙ (e ∙ corner_is n j (in_size j l));
     joins = λ i h. subst (λ u. IsTrue (joined edges u (after (whole n) i))) (sym (corner_is n i (in_size i h))) (subst (λ v. IsTrue (joined edges i v)) (sym (after_is n i (in_size i h)))
-      (joined_at edges i i (next n i) (below_edges i (in_size i h)) (subst (λ k. IsTrue (joins i (next n i) k)) (sym (cycle.joined i (in_size i h))) (joins_itself i (next n i)))));
+        (joined_at edges i i (next n i) (below_edges i (in_size i h)) (subst (λ k. IsTrue (joins i (next n i) k)) (sym (cycle.joined i (in_size i h))) (joins_itself i (next n i)))));
     convex = subst (λ r. IsConvex r) (sym (corners_are points)) ring;
     no_vertex = λ v h s. not_pos (subst (λ z. pos 0 <ℤ z) (turn-first (point_at points v) (point_at points (next n v))) ((subst (λ r. IsStrictlyIn r (point_at points v)) (corners_are points) s) v h));
     no_point = λ e s t h some p. mix_zero s t (left_of points e (point_at points e)) (left_of points e (point_at points (next n e))) (turn-first (point_at points e) (point_at points (next n e))) (turn-last (point_at points e) (point_at points (next n e)))
-      (subst (λ k. pos 0 <ℤ (pos s *ℤ left_of points e (first_point points k) +ℤ pos t *ℤ left_of points e (last_point points k))) (edge_is e h)
-      ((subst (λ r. IsMixStrictlyIn r s (first_point points (edge_at edges e)) t (last_point points (edge_at edges e))) (corners_are points) p) e (below_n e h)));
+        (subst (λ k. pos 0 <ℤ (pos s *ℤ left_of points e (first_point points k) +ℤ pos t *ℤ left_of points e (last_point points k))) (edge_is e h)
+        ((subst (λ r. IsMixStrictlyIn r s (first_point points (edge_at edges e)) t (last_point points (edge_at edges e))) (corners_are points) p) e (below_n e h)));
   }
 
   -- ---- which is its one face

@@ -1,9 +1,9 @@
 -- Some corners of a convex ring, taken in order and not all on one line, are a convex ring.
-use Rattle.std.proofs.Common.{◌≡◌, ◌≢◌, ℕ, zero, suc, ◌+◌, ◌-◌, ◌<◌, ◌≤◌, ◌⊎◌, inl, inr, refl, sym, ◌∙◌, ap, subst, arith, ℤ, pos, ◌-ℤ◌, ◌<ℤ◌, ◌≤ℤ◌, List, length, map, nat_lt, if◌then◌else◌}
+use Rattle.std.proofs.Common.{◌≡◌, ◌≢◌, ℕ, zero, suc, ◌+◌, ◌<◌, ◌≤◌, ◌⊎◌, inl, inr, refl, sym, subst, arith, pos, ◌<ℤ◌, ◌≤ℤ◌, List, length}
 use Rattle.std.specs.List.{All}
 use Rattle.std.proofs.lemmas.Int.{by_lt_z}
 use Rattle.std.proofs.lemmas.Bool.{cases_lt}
-use Rattle.std.proofs.lemmas.Bool.Decides.{nat_tests, eqb_tells}
+use Rattle.std.proofs.lemmas.Bool.Decides.{nat_tests}
 use Rattle.std.proofs.lemmas.List.{length-map, get_or-map}
 use Rattle.ff_whole.specs.declared.points.Pt.{Pt}
 use Rattle.ff_whole.specs.Points.{minus, turn, IsNear, origin}
@@ -13,7 +13,7 @@ use Rattle.ff_whole.proofs.Signs.{linear}
 use Rattle.ff_whole.proofs.Directions.{rank-minus, turn-first, flat}
 use Rattle.ff_whole.proofs.Ranks.{rank-same}
 use Rattle.ff_whole.proofs.ClosedLists.{next-below, next-apart}
-use Rattle.ff_types.specs.Rings.{corner, after, corners}
+use Rattle.ff_types.specs.Rings.{corner, corners}
 use Rattle.ff_types.proofs.ConvexEdges.{corners_turn, turn_cycled, turn-last}
 
 -- its numbers rise and are below n
@@ -87,7 +87,7 @@ module _ (points : List Pt) (near : All IsNear points) (apart : AreApart points)
         (λ l. by_lt_z (pos 0) (turn (K a) (K (next (length list) a)) (K y)) (λ m. (y, yl, m))
         (λ m. by_lt_z (pos 0) (turn (K a) (K (next (length list) a)) (K z)) (λ o. (z, zl, o))
         (λ o. absurd (bent (flat (K a) (K (next (length list) a)) (K x) (K y) (K z) (step_long a two h)
-          (let i = left_all a x h xl in omega (arith, linear)) (let i = left_all a y h yl in omega (arith, linear)) (let i = left_all a z h zl in omega (arith, linear)))))))
+        (let i = left_all a x h xl in omega (arith, linear)) (let i = left_all a y h yl in omega (arith, linear)) (let i = left_all a z h zl in omega (arith, linear)))))))
 
     pub sub_convex : IsConvex (corners points list)
     sub_convex = record {
