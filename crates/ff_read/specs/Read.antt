@@ -69,3 +69,9 @@ RefusesBytes bytes r = (d : Data) × (object_of bytes ≡ Some d) × RefusesFold
 abbrev pub IsNoPattern : List ℕ → No → Type 0
 IsNoPattern bytes (Refused r) = RefusesBytes bytes r
 IsNoPattern bytes no.NoMemory = Unit {0}
+
+-- refused as no JSON object exactly where this holds
+abbrev pub IsNotJson : Type 0 → No → Type 0
+IsNotJson P (Refused NotJson) = P
+IsNotJson P (Refused r) = ⊥
+IsNotJson P no.NoMemory = Unit {0}

@@ -2,7 +2,7 @@
 ghost use Rattle.std.specs.Prelude.{◌≡◌, None, Some, MatchResult};
 ghost use Rattle.serde_json.specs.View.{view};
 ghost use Rattle.ff_read.specs.Spelling.{object_of};
-ghost use Rattle.ff_types.specs.Refusals.{IsNotJson};
+ghost use Rattle.ff_read.specs.Read.{IsNotJson};
 
 use ff_types::{No, Refusal};
 use serde_json::Value;
