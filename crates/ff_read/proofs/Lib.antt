@@ -1,2 +1,7 @@
 pub mod Lists
-pub mod Objects
+pub mod Outcomes
+pub mod OneReading
+pub mod Sizes
+pub mod Good
+pub mod SeenEdges
+pub mod Texts

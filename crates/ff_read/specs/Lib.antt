@@ -1,1 +1,6 @@
 pub mod Spelling
+pub mod Refused
+pub mod Lists
+pub mod Read
+pub mod Seen
+pub mod Readings

@@ -1,5 +1,6 @@
 -- Which crease pattern a JSON value spells, by FOLD 1.1. That coordinates are whole numbers is this project's own.
-use Rattle.std.specs.Prelude.{ℕ, ◌≡◌, ◌==◌, ◌^◌, ℤ, List, [], ◌∷◌, codes, nat_lt, if◌then◌else◌, is_some, Option, None, Some, option_map, option_and_then}
+use Rattle.std.specs.Prelude.{ℕ, ◌≡◌, ◌==◌, ◌^◌, ℤ, pos, List, [], ◌∷◌, length, codes, nat_le, nat_lt, nat_eq, if◌then◌else◌, is_some, Option, None, Some, option_map, option_and_then}
+use Rattle.std.specs.Ordering.{int_eq}
 use Rattle.std.specs.Str.{is_utf8}
 use Rattle.serde_json.specs.Data.{Data, Items, no_items, item}
 use Rattle.serde_json.specs.Read.{read}
@@ -33,24 +34,33 @@ whole d = option_and_then as_i64 (as_number d)
 abbrev pub natural : Data → Option ℕ
 natural d = option_and_then as_u64 (as_number d)
 
--- the two items of an array of two
-abbrev pub two_of : Items → Option (Data × Data)
-two_of (item d (item e no_items)) = Some (d, e)
-two_of ds = None
+-- the items of an array
+abbrev pub listed : Items → List Data
+listed no_items = []
+listed (item d ds) = d ∷ listed ds
 
-abbrev pub pair_of : {A : Type 0} → (Data → Option A) → Data → Option (A × A)
-pair_of f d = option_and_then (λ p. option_and_then (λ a. option_map (λ b. (a, b)) (f p.1)) (f p.0)) (option_and_then two_of (as_array d))
+abbrev pub list_of : Data → Option (List Data)
+list_of d = option_map listed (as_array d)
 
--- the point `[x, y]`
+-- the point `[x, y]`, or `[x, y, 0]`
+abbrev pub point_in : List Data → Option Pt
+point_in (x ∷ y ∷ []) = option_and_then (λ a. option_map (λ b. record { x = a; y = b }) (whole y)) (whole x)
+point_in (x ∷ y ∷ z ∷ []) = option_and_then (λ c. if int_eq c (pos 0) then point_in (x ∷ y ∷ []) else None) (whole z)
+point_in ds = None
+
 abbrev pub point_of : Data → Option Pt
-point_of d = option_map (λ p. record { x = p.0; y = p.1 }) (pair_of whole d)
+point_of d = option_and_then point_in (list_of d)
 
 abbrev pub vertex_of : Data → Option ℕ
 vertex_of d = option_and_then (λ n. if nat_lt n (2 ^ 32) then Some n else None) (natural d)
 
+abbrev pub ends_in : List Data → Option EdgeEnds
+ends_in (a ∷ b ∷ []) = option_and_then (λ m. option_map (λ n. record { a = m; b = n }) (vertex_of b)) (vertex_of a)
+ends_in ds = None
+
 -- the edge `[a, b]`
 abbrev pub ends_of : Data → Option EdgeEnds
-ends_of d = option_map (λ p. record { a = p.0; b = p.1 }) (pair_of vertex_of d)
+ends_of d = option_and_then ends_in (list_of d)
 
 abbrev pub letter : List ℕ → Option Mark
 letter (c ∷ []) = if c == 66 then Some B else (if c == 77 then Some M else (if c == 86 then Some V else (if c == 70 then Some F else (if c == 85 then Some U else None))))
@@ -60,27 +70,59 @@ letter cs = None
 abbrev pub mark_of : Data → Option Mark
 mark_of d = option_and_then letter (as_str d)
 
--- ---- the three lists
+-- what each item spells, None where one spells nothing
+abbrev pub all_of : {A : Type 0} → (Data → Option A) → List Data → Option (List A)
+all_of f [] = Some []
+all_of f (d ∷ ds) = option_and_then (λ a. option_map (λ rest. a ∷ rest) (all_of f ds)) (f d)
 
-abbrev pub all_of : {A : Type 0} → (Data → Option A) → Items → Option (List A)
-all_of f no_items = Some []
-all_of f (item d ds) = option_and_then (λ a. option_map (λ rest. a ∷ rest) (all_of f ds)) (f d)
+-- ---- the three keys
 
--- the items of an array
-abbrev pub list_of : {A : Type 0} → (Data → Option A) → Data → Option (List A)
-list_of f d = option_and_then (all_of f) (as_array d)
+-- the items under the keys; `marks` is None where there is no assignment
+pub record Keys : Type 0 where
+  pub vertices : List Data
+  pub edges : List Data
+  pub marks : Option (List Data)
 
--- the list under a key
-abbrev pub list_at : {A : Type 0} → (Data → Option A) → List ℕ → Data → Option (List A)
-list_at f key d = option_and_then (list_of f) (get key d)
+-- an array of three items at least
+abbrev pub vertices_in : Data → Option (List Data)
+vertices_in d = option_and_then (λ ds. if nat_le 3 (length ds) then Some ds else None) (option_and_then list_of (get (codes "vertices_coords") d))
 
--- the list under a key that may be absent
-abbrev pub optional_list_of : {A : Type 0} → (Data → Option A) → Option Data → Option (Option (List A))
-optional_list_of f None = Some None
-optional_list_of f (Some d) = option_map Some (list_of f d)
+-- an array
+abbrev pub edges_in : Data → Option (List Data)
+edges_in d = option_and_then list_of (get (codes "edges_vertices") d)
+
+-- an array of n items
+abbrev pub marks_of : ℕ → Data → Option (List Data)
+marks_of n d = option_and_then (λ ds. if nat_eq (length ds) n then Some ds else None) (list_of d)
+
+-- absent, or an array of n items
+abbrev pub optional_marks : ℕ → Option Data → Option (Option (List Data))
+optional_marks n None = Some None
+optional_marks n (Some d) = option_map Some (marks_of n d)
+
+abbrev pub marks_in : ℕ → Data → Option (Option (List Data))
+marks_in n d = optional_marks n (get (codes "edges_assignment") d)
+
+-- the object has this under its keys
+pub record IsKeyed (d : Data) (k : Keys) : Type 0 where
+  pub vertices : vertices_in d ≡ Some k.vertices
+  pub edges : edges_in d ≡ Some k.edges
+  pub marks : marks_in (length k.edges) d ≡ Some k.marks
+
+-- ---- the pattern
+
+abbrev pub optional_all_of : {A : Type 0} → (Data → Option A) → Option (List Data) → Option (Option (List A))
+optional_all_of f None = Some None
+optional_all_of f (Some ds) = option_map Some (all_of f ds)
+
+-- the items spell the pattern
+pub record AreSpelled (k : Keys) (p : Pattern) : Type 0 where
+  pub points : all_of point_of k.vertices ≡ Some p.points
+  pub edges : all_of ends_of k.edges ≡ Some p.edges
+  pub marks : optional_all_of mark_of k.marks ≡ Some p.marks
 
 -- the object spells the pattern
 pub record Spells (d : Data) (p : Pattern) : Type 0 where
-  pub points : list_at point_of (codes "vertices_coords") d ≡ Some p.points
-  pub edges : list_at ends_of (codes "edges_vertices") d ≡ Some p.edges
-  pub marks : optional_list_of mark_of (get (codes "edges_assignment") d) ≡ Some p.marks
+  pub keys : Keys
+  pub keyed : IsKeyed d keys
+  pub spelled : AreSpelled keys p

@@ -1,9 +1,12 @@
 -- The answer to words and input is one.
-use Rattle.std.proofs.Common.{◌≡◌, ◌<◌, ◌∙◌, ℕ, List, length, Option, None, Some, refl, ap, sym, subst, arith}
-use Rattle.serde_json.specs.Data.{Data}
+use Rattle.std.proofs.Common.{◌≡◌, ◌<◌, ◌≤◌, ◌⊎◌, inl, inr, ◌∙◌, ℕ, List, length, refl, ap, sym, subst, arith}
 use Rattle.ff_top.specs.Answer.{IsAnswer, solve_words}
-use Rattle.ff_top.specs.Sheet.{IsRefused, IsSheet, SpellsSheet}
-use Rattle.ff_read.specs.Spelling.{object_of}
+use Rattle.ff_whole.specs.Convex.{AreApart, IsConvex}
+use Rattle.ff_types.specs.declared.patterns.EdgeEnds.{EdgeEnds}
+use Rattle.ff_read.specs.Read.{RefusesBytes}
+use Rattle.ff_read.proofs.OneReading.{reading_is_one}
+use Rattle.ff_top.specs.Plain.{AreRing, AreBorder, IsPlain}
+use Rattle.ff_top.specs.Sheet.{IsRefused, SpellsSheet, SpellsOther}
 use Rattle.ff_top.specs.Texts.{refusal_line, report}
 use Rattle.ff_types.specs.declared.limits.TheConstants.{MOST_BYTES}
 use Rattle.ff_types.specs.declared.patterns.Pattern.{Pattern}
@@ -12,57 +15,74 @@ use Rattle.ff_types.specs.declared.refusals.Refusal.TheVariants.{TooLong, NotJso
 use Rattle.ff_top.specs.declared.status.Status.{Status}
 use Rattle.ff_top.specs.declared.status.Status.TheVariants.{Done, Impossible, Refused, Unfinished, ReadFault, WriteFault, NoMemory, Usage}
 
-not_none : {A : Type 0} (o : Option A) (a : A) → o ≡ None → o ≡ Some a → ⊥
-not_none o a h e = cc
+-- too many bytes, or a pattern that is no plain sheet, or what reading refuses
+pub Reasons : List ℕ → Refusal → Type 0
+Reasons input r = ((MOST_BYTES < length input) × (r ≡ TooLong)) ⊎ ((length input ≤ MOST_BYTES) × ((SpellsOther input × (r ≡ NotYet)) ⊎ RefusesBytes input r))
 
-one_value : {A : Type 0} (o : Option A) (a b : A) → o ≡ Some a → o ≡ Some b → a ≡ b
-one_value o a b h e = cc
+reasons : (input : List ℕ) (r : Refusal) → IsRefused input r → Reasons input r
+unfolding Reasons
+reasons input TooLong h = inl (h, refl)
+reasons input NotYet h = inr (h.0, inl (h.1, refl))
+reasons input NotJson h = inr (h.0, inr h.1)
+reasons input (BadKey k) h = inr (h.0, inr h.1)
+reasons input (BadVertex v) h = inr (h.0, inr h.1)
+reasons input (FarVertex v) h = inr (h.0, inr h.1)
+reasons input (BadEdge e) h = inr (h.0, inr h.1)
+reasons input (BadMark e) h = inr (h.0, inr h.1)
+reasons input (SamePoint v) h = inr (h.0, inr h.1)
+reasons input (Crossing e k) h = inr (h.0, inr h.1)
+reasons input (Loose v) h = inr (h.0, inr h.1)
+reasons input (Rim e) h = inr (h.0, inr h.1)
+reasons input (Pinch v) h = inr (h.0, inr h.1)
+reasons input (Reflex v) h = inr (h.0, inr h.1)
+reasons input (Enclosed v) h = inr (h.0, inr h.1)
+reasons input (Apart f) h = inr (h.0, inr h.1)
+reasons input (Parity e) h = inr (h.0, inr h.1)
+reasons input (Inconsistent v) h = inr (h.0, inr h.1)
+reasons input (Oversized v) h = inr (h.0, inr h.1)
+reasons input (TooMany w n) h = inr (h.0, inr h.1)
+reasons input (BadScript w n) h = inr (h.0, inr h.1)
+
+-- a plain sheet by its lists
+plain_same : (p q : Pattern) → (p.points ≡ q.points) × (p.edges ≡ q.edges) × (p.marks ≡ q.marks) → IsPlain p → IsPlain q
+plain_same p q e h = record {
+  ring = subst (λ (n : ℕ). AreRing n q.edges) (ap length e.0) (subst (λ (es : List EdgeEnds). AreRing (length p.points) es) e.1 h.ring);
+  border = subst AreBorder e.2 h.border;
+  apart = subst AreApart e.0 h.apart;
+  convex = subst IsConvex e.0 h.convex;
+}
+
+one_inner : (input : List ℕ) (q r : Refusal) → (SpellsOther input × (q ≡ NotYet)) ⊎ RefusesBytes input q → (SpellsOther input × (r ≡ NotYet)) ⊎ RefusesBytes input r → q ≡ r
+one_inner input q r (inl a) (inl b) = a.1 ∙ sym b.1
+one_inner input q r (inl a) (inr b) = absurd (reading_is_one.not_both input a.0.pattern r a.0.read b)
+one_inner input q r (inr a) (inl b) = absurd (reading_is_one.not_both input b.0.pattern q b.0.read a)
+one_inner input q r (inr a) (inr b) = reading_is_one.refusal input q r a b
+
+one_reason : (input : List ℕ) (q r : Refusal) → Reasons input q → Reasons input r → q ≡ r
+unfolding Reasons
+one_reason input q r (inl a) (inl b) = a.1 ∙ sym b.1
+one_reason input q r (inl a) (inr b) = absurd (omega (arith, a.0, b.0))
+one_reason input q r (inr a) (inl b) = absurd (omega (arith, a.0, b.0))
+one_reason input q r (inr a) (inr b) = one_inner input q r a.1 b.1
 
 one_refusal : (input : List ℕ) (q r : Refusal) → IsRefused input q → IsRefused input r → q ≡ r
-one_refusal input TooLong TooLong a b = refl
-one_refusal input TooLong NotJson a b = absurd (omega (arith, a, b.0))
-one_refusal input TooLong NotYet a b = absurd (omega (arith, a, b.0))
-one_refusal input NotJson TooLong a b = absurd (omega (arith, a.0, b))
-one_refusal input NotJson NotJson a b = refl
-one_refusal input NotJson NotYet a b = absurd (not_none (object_of input) b.1 a.1 b.2)
-one_refusal input NotYet TooLong a b = absurd (omega (arith, a.0, b))
-one_refusal input NotYet NotJson a b = absurd (not_none (object_of input) a.1 b.1 a.2)
-one_refusal input NotYet NotYet a b = refl
-one_refusal input (BadKey k) r a b = absurd a
-one_refusal input (BadVertex v) r a b = absurd a
-one_refusal input (FarVertex v) r a b = absurd a
-one_refusal input (BadEdge e) r a b = absurd a
-one_refusal input (BadMark e) r a b = absurd a
-one_refusal input (SamePoint v) r a b = absurd a
-one_refusal input (Crossing e k) r a b = absurd a
-one_refusal input (Loose v) r a b = absurd a
-one_refusal input (Rim e) r a b = absurd a
-one_refusal input (Pinch v) r a b = absurd a
-one_refusal input (Reflex v) r a b = absurd a
-one_refusal input (Enclosed v) r a b = absurd a
-one_refusal input (Apart f) r a b = absurd a
-one_refusal input (Parity e) r a b = absurd a
-one_refusal input (Inconsistent v) r a b = absurd a
-one_refusal input (Oversized v) r a b = absurd a
-one_refusal input (TooMany w n) r a b = absurd a
-one_refusal input (BadScript w n) r a b = absurd a
-one_refusal input q r a b = absurd b
+one_refusal input q r a b = one_reason input q r (reasons input q a) (reasons input r b)
+
+not_inner : (input : List ℕ) (r : Refusal) (p : Pattern) → (SpellsOther input × (r ≡ NotYet)) ⊎ RefusesBytes input r → SpellsSheet input p → ⊥
+not_inner input r p (inl a) s = a.0.other (plain_same p a.0.pattern (reading_is_one.pattern input p a.0.pattern s.read a.0.read) s.plain)
+not_inner input r p (inr a) s = reading_is_one.not_both input p r s.read a
+
+no_reason : (input : List ℕ) (r : Refusal) (p : Pattern) → Reasons input r → SpellsSheet input p → ⊥
+unfolding Reasons
+no_reason input r p (inl a) s = omega (arith, a.0, s.within)
+no_reason input r p (inr a) s = not_inner input r p a.1 s
 
 not_refused : (input : List ℕ) (r : Refusal) (p : Pattern) → IsRefused input r → SpellsSheet input p → ⊥
-not_refused input TooLong p a s = omega (arith, a, s.within)
-not_refused input NotJson p a s = not_none (object_of input) s.object a.1 s.read
-not_refused input NotYet p a s =
-    let same : s.object ≡ a.1 = one_value (object_of input) s.object a.1 s.read a.2 in
-    let sheet : IsSheet a.1 p = subst (λ (d : Data). IsSheet d p) same s.sheet in
-    a.3.none p sheet
-not_refused input r p a s = absurd a
+not_refused input r p a s = no_reason input r p (reasons input r a) s
 
 -- the corners of a sheet are those that the bytes spell
 one_report : (input : List ℕ) (p q : Pattern) → SpellsSheet input p → SpellsSheet input q → report p.points ≡ report q.points
-one_report input p q a b =
-    let same : a.object ≡ b.object = one_value (object_of input) a.object b.object a.read b.read in
-    let sheet : IsSheet b.object p = subst (λ (d : Data). IsSheet d p) same a.sheet in
-    ap report (one_value _ p.points q.points sheet.spelled.points b.sheet.spelled.points)
+one_report input p q a b = ap report (reading_is_one.pattern input p q a.read b.read).0
 
 pub one_text : (words : List (List ℕ)) (input : List ℕ) (s t : Status) (x y : List ℕ) → IsAnswer words input s x → IsAnswer words input t y → x ≡ y
 one_text words input Usage Usage x y a b = a.1 ∙ sym b.1

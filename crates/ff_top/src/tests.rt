@@ -27,6 +27,14 @@ const TRIANGLE: &str =
 const TRIANGLE_REPORT: &str =
     "faces 1 scale 1 pairs 0 constraints 0\nface 0 up -1048575,7 0,7 1048575,7 0,1048575\nparts 0\ndone\n";
 
+// The unit square without an assignment, its points in space.
+const UNMARKED: &str =
+    "{\"vertices_coords\":[[0,0,0],[1,0,0],[1,1,0],[0,1,0]],\"edges_vertices\":[[0,1],[1,2],[2,3],[3,0]]}";
+
+// A square with a far vertex and a bad letter.
+const FAR: &str =
+    "{\"vertices_coords\":[[0,0],[1048576,0],[1,1],[0,1]],\"edges_vertices\":[[0,1],[1,2],[2,3],[3,0]],\"edges_assignment\":[\"B\",\"C\",\"B\",\"B\"]}";
+
 const NOT_YET: &str = "refused 0 not yet\n";
 
 const NOT_JSON: &str = "refused 2 not json\n";
@@ -53,7 +61,14 @@ fn each_input_has_its_answer(rt: HostRuntime) -> Result<(), Fail> {
         (solve, TRIANGLE, Status::Done, TRIANGLE_REPORT),
         (solve, CLOCKWISE, Status::Refused, NOT_YET),
         (solve, DIAGONAL, Status::Refused, NOT_YET),
-        (solve, "{}", Status::Refused, NOT_YET),
+        (
+            solve,
+            "{}",
+            Status::Refused,
+            "refused 3 bad key vertices_coords\n",
+        ),
+        (solve, UNMARKED, Status::Done, UNIT_REPORT),
+        (solve, FAR, Status::Refused, "refused 5 far vertex 1\n"),
         (solve, "[1]", Status::Refused, NOT_JSON),
         (&["fold"], UNIT, Status::Usage, USAGE),
         (&["solve", "solve"], UNIT, Status::Usage, USAGE),

@@ -1,5 +1,4 @@
 pub mod Patterns
-pub mod Refusals
 pub mod Drawings
 pub mod Rings
 pub mod Areas

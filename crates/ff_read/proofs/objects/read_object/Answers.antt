@@ -3,8 +3,8 @@ use Rattle.std.specs.Option.{is_some}
 use Rattle.serde_json.specs.Find.{as_object}
 use Rattle.serde_json.specs.View.{view}
 use Rattle.serde_json.specs.Errors.{IsMemory}
-use Rattle.ff_read.proofs.Objects.{object_of-none, object_of-some}
-use Rattle.ff_read.proofs.reading.read_object.Goals as goal
+use Rattle.ff_read.proofs.Texts.{object_of-none, object_of-some}
+use Rattle.ff_read.proofs.objects.read_object.Goals as goal
 
 pub returns-else-is_memory : goal.returns-else-is_memory
 returns-else-is_memory c =

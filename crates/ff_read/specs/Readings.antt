@@ -1,0 +1,12 @@
+-- Bytes come to one pattern or to one refusal.
+use Rattle.std.specs.Prelude.{ℕ, ◌≡◌, List}
+use Rattle.ff_types.specs.declared.patterns.Pattern.{Pattern}
+use Rattle.ff_types.specs.declared.refusals.Refusal.{Refusal}
+use Rattle.ff_read.specs.Read.{IsReadAs, RefusesBytes}
+
+pub record ReadingIsOne : Type 0 where
+  pub pattern : (bytes : List ℕ) (p q : Pattern) → IsReadAs bytes p → IsReadAs bytes q → (p.points ≡ q.points) × (p.edges ≡ q.edges) × (p.marks ≡ q.marks)
+  pub refusal : (bytes : List ℕ) (r s : Refusal) → RefusesBytes bytes r → RefusesBytes bytes s → r ≡ s
+  pub not_both : (bytes : List ℕ) (p : Pattern) (r : Refusal) → IsReadAs bytes p → RefusesBytes bytes r → ⊥
+  -- They come to something. It is said by what can't be, since no definition decides what it is.
+  pub some : (bytes : List ℕ) → ((p : Pattern) → IsReadAs bytes p → ⊥) → ((r : Refusal) → RefusesBytes bytes r → ⊥) → ⊥
