@@ -8,7 +8,8 @@ use Rattle.ff_whole.specs.Convex.{point_at}
 abbrev pub area_from : List Pt → ℕ → List ℕ → ℤ
 area_from points first [] = pos 0
 area_from points first (u ∷ []) = cross (point_at points u) (point_at points first)
-area_from points first (u ∷ v ∷ rest) = cross (point_at points u) (point_at points v) +ℤ area_from points first (v ∷ rest)
+area_from points first (u ∷ v ∷ rest) = cross (point_at points u) (point_at points v)
+    +ℤ area_from points first (v ∷ rest)
 
 -- twice the signed area: positive where the list goes counterclockwise
 abbrev pub area : List Pt → List ℕ → ℤ

@@ -9,14 +9,20 @@ use Rattle.ff_types.specs.Sheets.{Sheet, edges_of, tail, head, line_of}
 
 -- on the image of the edge, its ends counted
 abbrev pub is_on : Sheet → ℕ → Place → Bool
-is_on g e s = int_eq (height (line_of g e) s) (pos 0) && int_le (pos 0) (past (tail g e) (head g e) s) && int_le (pos 0) (past (head g e) (tail g e) s)
+is_on g e s = int_eq (height (line_of g e) s) (pos 0) && int_le (pos 0) (past (tail g e) (head g e) s)
+    && int_le (pos 0) (past (head g e) (tail g e) s)
 
 -- strictly between the images of its ends
 abbrev pub is_between : Sheet → ℕ → Place → Bool
-is_between g e s = int_eq (height (line_of g e) s) (pos 0) && int_lt (pos 0) (past (tail g e) (head g e) s) && int_lt (pos 0) (past (head g e) (tail g e) s)
+is_between g e s = int_eq (height (line_of g e) s) (pos 0) && int_lt (pos 0) (past (tail g e) (head g e) s)
+    && int_lt (pos 0) (past (head g e) (tail g e) s)
 
 abbrev pub are_parallel : Sheet → ℕ → ℕ → Bool
 are_parallel g e k = int_eq (slant (line_of g e) (line_of g k)) (pos 0)
+
+-- the image of the edge k doesn't hold the place, or it does strictly between its ends and runs along that of e
+abbrev pub is_plain_at : Sheet → ℕ → Place → ℕ → Bool
+is_plain_at g e s k = not (is_on g k s) || (is_between g k s && are_parallel g k e)
 
 -- A plain border place on the image of the edge e, and of others: every edge whose image holds it has it strictly
 -- between the images of its ends, and all these images are parallel. The edge e says which side is called left;
@@ -25,4 +31,4 @@ pub record IsPlainBorder (g : Sheet) (e : ℕ) (s : Place) : Type 0 where
   pub place : IsPlace s
   pub edge : e < length g.edges
   pub on : IsTrue (is_on g e s)
-  pub plain : IsTrue (list_all (λ k. not (is_on g k s) || (is_between g k s && are_parallel g k e)) (edges_of g))
+  pub plain : IsTrue (list_all (is_plain_at g e s) (edges_of g))

@@ -20,14 +20,19 @@ between s t = record { x = (t.x *ℤ s.w) -ℤ (s.x *ℤ t.w); y = (t.y *ℤ s.w
 -- Places u, v, w have the shape of the points p, q, r, turned over where the flag is false.
 pub record KeepShape (up : Bool) (p q r : Pt) (u v w : Place) : Type 0 where
   pub dots : dot (between u v) (between u w) ≡ ((u.w *ℤ u.w) *ℤ (v.w *ℤ w.w)) *ℤ dot (minus q p) (minus r p)
-  pub crosses : cross (between u v) (between u w) ≡ signed up (((u.w *ℤ u.w) *ℤ (v.w *ℤ w.w)) *ℤ cross (minus q p) (minus r p))
+  pub crosses : cross (between u v) (between u w)
+      ≡ signed up (((u.w *ℤ u.w) *ℤ (v.w *ℤ w.w)) *ℤ cross (minus q p) (minus r p))
 
 -- Where each face carries its vertices, before any scale: face 0 lies still, each face keeps its shape, and agrees with
 -- the face from which it was first met on their edge. So it is carried as that face is, and then reflected where the edge is folded.
-pub record IsCarried (points : List Pt) (rings : List (List ℕ)) (edges : List EdgeEnds) (all : List Meeting) (up : List Bool) (order : List ℕ) (carried : ℕ → ℕ → Place) : Type 0 where
+pub record IsCarried (points : List Pt) (rings : List (List ℕ)) (edges : List EdgeEnds) (all : List Meeting)
+    (up : List Bool) (order : List ℕ) (carried : ℕ → ℕ → Place) : Type 0 where
   pub places : (f v : ℕ) → IsPlace (carried f v)
   pub still : (v : ℕ) → IsTrue (same_place (carried 0 v) (place_of (point_at points v)))
-  pub shapes : (f u v w : ℕ) → Contains order f → Contains (ring_at rings f) u → Contains (ring_at rings f) v → Contains (ring_at rings f) w
+  pub shapes : (f u v w : ℕ) → Contains order f → Contains (ring_at rings f) u → Contains (ring_at rings f) v
+      → Contains (ring_at rings f) w
       → KeepShape (is_up up f) (point_at points u) (point_at points v) (point_at points w) (carried f u) (carried f v) (carried f w)
-  pub agree_first : (i : ℕ) (m : Meeting) → IsParent all i m → IsTrue (same_place (carried m.across (edge_at edges m.edge).a) (carried m.face (edge_at edges m.edge).a))
-  pub agree_second : (i : ℕ) (m : Meeting) → IsParent all i m → IsTrue (same_place (carried m.across (edge_at edges m.edge).b) (carried m.face (edge_at edges m.edge).b))
+  pub agree_first : (i : ℕ) (m : Meeting) → IsParent all i m
+      → IsTrue (same_place (carried m.across (edge_at edges m.edge).a) (carried m.face (edge_at edges m.edge).a))
+  pub agree_second : (i : ℕ) (m : Meeting) → IsParent all i m
+      → IsTrue (same_place (carried m.across (edge_at edges m.edge).b) (carried m.face (edge_at edges m.edge).b))

@@ -12,7 +12,8 @@ abbrev pub is_crease : GivenBy → Bool
 is_crease (Crease e) = true
 is_crease Pin = false
 
-pub record AreCaseFields (system : System) (cites : List Cite) (pairs : List (ℕ × ℕ)) (starts : List Given) : Type 0 where
+pub record AreCaseFields (system : System) (cites : List Cite) (pairs : List (ℕ × ℕ))
+    (starts : List Given) : Type 0 where
   -- one cite per constraint, one pair per variable
   pub cited : length cites ≡ length system.constraints
   pub paired : length pairs ≡ system.vars
@@ -20,7 +21,8 @@ pub record AreCaseFields (system : System) (cites : List Cite) (pairs : List (�
   pub fit : (i : ℕ) (g : Given) → slice_get starts i ≡ Some g → g.var < system.vars
   pub by_creases : (i : ℕ) (g : Given) → slice_get starts i ≡ Some g → is_crease g.by ≡ true
   -- in order of the creases' numbers
-  pub rising : (i j : ℕ) (g h : Given) (d e : ℕ) → i < j → slice_get starts i ≡ Some g → slice_get starts j ≡ Some h → g.by ≡ Crease d → h.by ≡ Crease e → d < e
+  pub rising : (i j : ℕ) (g h : Given) (d e : ℕ) → i < j → slice_get starts i ≡ Some g
+      → slice_get starts j ≡ Some h → g.by ≡ Crease d → h.by ≡ Crease e → d < e
 
 -- the number of the crease's edge; of no meaning for a pin
 abbrev pub edge_of : GivenBy → ℕ

@@ -38,7 +38,8 @@ pub record IsTermOf (pairs : List (ℕ × ℕ)) (pair : ℕ × ℕ) (term : Term
 pub record IsConstraintOf (g : Sheet) (pairs : List (ℕ × ℕ)) (c : Cite) (con : Constraint) : Type 0 where
   pub kind : con.kind ≡ kind_of c
   pub counted : length con.terms ≡ length (terms_of g c)
-  pub terms : (j : ℕ) → j < length con.terms → IsTermOf pairs (slice_index_or (terms_of g c) j (0, 0)) (term_at con.terms j)
+  pub terms : (j : ℕ) → j < length con.terms
+      → IsTermOf pairs (slice_index_or (terms_of g c) j (0, 0)) (term_at con.terms j)
 
 -- the order of the lesser face to the greater one that keeps a crease with this mark, where the lesser face is up or not
 abbrev pub crease_order : Mark → Bool → Option Order
@@ -62,8 +63,11 @@ pub record IsCaseOf (g : Sheet) (case : Case) : Type 0 where
   pub pairs_are : (f h : ℕ) → f < h → Overlap g f h ↔ ((n : ℕ) × (slice_get case.pairs n ≡ Some (f, h)))
   -- the constraints that hold, all of them, each once, in order
   pub witnessed : (n : ℕ) (c : Cite) → slice_get case.cites n ≡ Some c → Witnessed g c
-  pub complete : (c : Cite) → Holds g c → (n : ℕ) × (d : Cite) × (slice_get case.cites n ≡ Some d) × (key d ≡ key c)
-  pub sorted_cites : (m n : ℕ) (c d : Cite) → m < n → slice_get case.cites m ≡ Some c → slice_get case.cites n ≡ Some d → IsTrue (list_before (key c) (key d))
-  pub constraints_are : (n : ℕ) (c : Cite) (con : Constraint) → slice_get case.cites n ≡ Some c → slice_get case.system.constraints n ≡ Some con → IsConstraintOf g case.pairs c con
+  pub complete : (c : Cite) → Holds g c → (n : ℕ) × (d : Cite) × (slice_get case.cites n ≡ Some d)
+      × (key d ≡ key c)
+  pub sorted_cites : (m n : ℕ) (c d : Cite) → m < n → slice_get case.cites m ≡ Some c
+      → slice_get case.cites n ≡ Some d → IsTrue (list_before (key c) (key d))
+  pub constraints_are : (n : ℕ) (c : Cite) (con : Constraint) → slice_get case.cites n ≡ Some c
+      → slice_get case.system.constraints n ≡ Some con → IsConstraintOf g case.pairs c con
   -- the facts of the M and V edges, in edge order
   pub starts_are : case.starts ≡ filter_map (start_of g case.pairs) (edges_of g)

@@ -46,21 +46,25 @@ abbrev pub Holds : Sheet → Cite → Type 0
 -- three faces have a common place
 Holds g (Transitivity f h k at) = (f < h) × (h < k) × HaveCommon g (f ∷ h ∷ k ∷ [])
 -- two folded edges share a segment, all four faces on one side
-Holds g (TacoTaco e k) = (e < k) × IsTrue (is_folded_edge g e && is_folded_edge g k) × ShareSegment g e k × IsTrue (on_one_side g e (lesser g e ∷ greater g e ∷ lesser g k ∷ greater g k ∷ []))
+Holds g (TacoTaco e k) = (e < k) × IsTrue (is_folded_edge g e && is_folded_edge g k) × ShareSegment g e k
+    × IsTrue (on_one_side g e (lesser g e ∷ greater g e ∷ lesser g k ∷ greater g k ∷ []))
 -- a face, or the two faces of a flat edge, run through where a folded edge is
 Holds g (TacoFace e face at) = IsTrue (is_folded_edge g e) × HasEdgeInside g face e
 Holds g (TacoEdge e flat) = IsTrue (is_folded_edge g e) × IsTrue (is_flat_edge g flat) × ShareSegment g e flat
 -- the same where a flat edge is
 Holds g (FlatFace flat face at) = IsTrue (is_flat_edge g flat) × HasEdgeInside g face flat
-Holds g (FlatEdge flat flat2) = (flat < flat2) × IsTrue (is_flat_edge g flat && is_flat_edge g flat2) × ShareSegment g flat flat2
+Holds g (FlatEdge flat flat2) = (flat < flat2) × IsTrue (is_flat_edge g flat && is_flat_edge g flat2)
+    × ShareSegment g flat flat2
 
 -- The places that the cite names, if any, witness it.
 abbrev pub Witnessed : Sheet → Cite → Type 0
 Witnessed g (Transitivity f h k at) = (f < h) × (h < k) × IsWitness g (f ∷ h ∷ k ∷ []) at
 Witnessed g (TacoTaco e k) = Holds g (TacoTaco e k)
-Witnessed g (TacoFace e face at) = IsTrue (is_folded_edge g e) × IsTrue (list_all (is_on g e) at) × IsWitness g (face ∷ []) at
+Witnessed g (TacoFace e face at) = IsTrue (is_folded_edge g e) × IsTrue (list_all (is_on g e) at)
+    × IsWitness g (face ∷ []) at
 Witnessed g (TacoEdge e flat) = Holds g (TacoEdge e flat)
-Witnessed g (FlatFace flat face at) = IsTrue (is_flat_edge g flat) × IsTrue (list_all (is_on g flat) at) × IsWitness g (face ∷ []) at
+Witnessed g (FlatFace flat face at) = IsTrue (is_flat_edge g flat) × IsTrue (list_all (is_on g flat) at)
+    × IsWitness g (face ∷ []) at
 Witnessed g (FlatEdge flat flat2) = Holds g (FlatEdge flat flat2)
 
 -- Its places have numbers of a size whose side may be asked. So it is of every cite that a call takes or gives.

@@ -66,8 +66,10 @@ pub record Alternate (circ : List Side) (c d : Side × Side) : Type 0 where
 
 -- no two chords alternate, however the two sides are listed
 abbrev pub IsUncrossed : Sheet → (ℕ → ℕ → Bool) → ℕ → Place → Type 0
-IsUncrossed g above e s = (left right : List ℕ) → IsListing above (left_faces g e s) left → IsListing above (right_faces g e s) right
-    → (c d : Side × Side) → Contains (chords g e s) c → Contains (chords g e s) d → Alternate (circle left right) c d → ⊥
+IsUncrossed g above e s = (left right : List ℕ) → IsListing above (left_faces g e s) left
+    → IsListing above (right_faces g e s) right
+    → (c d : Side × Side) → Contains (chords g e s) c → Contains (chords g e s) d
+    → Alternate (circle left right) c d → ⊥
 
 pub record IsGeometricStacking (g : Sheet) (above : ℕ → ℕ → Bool) : Type 0 where
   pub stacking : IsStacking g above

@@ -32,7 +32,8 @@ last_point points e = point_at points e.b
 pub record Common (points : List Pt) (e k : EdgeEnds) (s t u v : ℕ) : Type 0 where
   pub some : 0 < s + t
   pub sums : s + t ≡ u + v
-  pub same : mix s (first_point points e) t (last_point points e) ≡ mix u (first_point points k) v (last_point points k)
+  pub same : mix s (first_point points e) t (last_point points e)
+      ≡ mix u (first_point points k) v (last_point points k)
 
 -- the point with these weights is an end of its edge
 abbrev pub IsEnd : ℕ → ℕ → Type 0
@@ -44,7 +45,8 @@ MeetAtEnds points e k = (s t u v : ℕ) → Common points e k s t u v → IsEnd 
 
 -- two different edges end at the vertex
 abbrev pub HasTwoEdges : List EdgeEnds → ℕ → Type 0
-HasTwoEdges edges v = (e k : ℕ) × (e < k) × (k < length edges) × IsTrue (has_end (edge_at edges e) v) × IsTrue (has_end (edge_at edges k) v)
+HasTwoEdges edges v = (e k : ℕ) × (e < k) × (k < length edges) × IsTrue (has_end (edge_at edges e) v)
+    × IsTrue (has_end (edge_at edges k) v)
 
 pub record IsDrawing (points : List Pt) (edges : List EdgeEnds) : Type 0 where
   pub near : (v : ℕ) → v < length points → IsNear (point_at points v)
@@ -52,8 +54,10 @@ pub record IsDrawing (points : List Pt) (edges : List EdgeEnds) : Type 0 where
   pub apart : AreApart points
   -- an edge joins two different vertices, and no two edges join the same two
   pub edges_join : (e : ℕ) → e < length edges → Joins (length points) (edge_at edges e)
-  pub once : (e k : ℕ) → e < length edges → k < length edges → IsTrue (joins (edge_at edges e).a (edge_at edges e).b (edge_at edges k)) → e ≡ k
+  pub once : (e k : ℕ) → e < length edges → k < length edges
+      → IsTrue (joins (edge_at edges e).a (edge_at edges e).b (edge_at edges k)) → e ≡ k
   -- each vertex is an end of at least two edges
   pub two : (v : ℕ) → v < length points → HasTwoEdges edges v
   -- a point common to two edges is an end of both
-  pub meet : (e k : ℕ) → e < length edges → k < length edges → e ≢ k → MeetAtEnds points (edge_at edges e) (edge_at edges k)
+  pub meet : (e k : ℕ) → e < length edges → k < length edges → e ≢ k
+      → MeetAtEnds points (edge_at edges e) (edge_at edges k)

@@ -53,19 +53,24 @@ mark_at marks e = slice_index_or marks e B
 
 -- a border edge has one side in a ring, any other has both
 abbrev pub FitsMark : List (List ℕ) → EdgeEnds → Mark → Type 0
-FitsMark rings e B = (Belongs rings e.a e.b × (Belongs rings e.b e.a → ⊥)) ⊎ ((Belongs rings e.a e.b → ⊥) × Belongs rings e.b e.a)
+FitsMark rings e B = (Belongs rings e.a e.b × (Belongs rings e.b e.a → ⊥))
+    ⊎ ((Belongs rings e.a e.b → ⊥) × Belongs rings e.b e.a)
 FitsMark rings e _ = Belongs rings e.a e.b × Belongs rings e.b e.a
 
 -- where marks are absent, each edge has at least one side in a ring
 abbrev pub FitMarks : List EdgeEnds → List (List ℕ) → Option (List Mark) → Type 0
-FitMarks edges rings (Some marks) = (e : ℕ) → e < length edges → FitsMark rings (edge_at edges e) (mark_at marks e)
-FitMarks edges rings None = (e : ℕ) → e < length edges → Belongs rings (edge_at edges e).a (edge_at edges e).b ⊎ Belongs rings (edge_at edges e).b (edge_at edges e).a
+FitMarks edges rings (Some marks) = (e : ℕ) → e < length edges
+    → FitsMark rings (edge_at edges e) (mark_at marks e)
+FitMarks edges rings None = (e : ℕ) → e < length edges → Belongs rings (edge_at edges e).a (edge_at edges e).b
+    ⊎ Belongs rings (edge_at edges e).b (edge_at edges e).a
 
 -- The rings are the faces of the drawing. A drawing has at most one such list.
-pub record AreRings (points : List Pt) (edges : List EdgeEnds) (marks : Option (List Mark)) (rings : List (List ℕ)) : Type 0 where
+pub record AreRings (points : List Pt) (edges : List EdgeEnds) (marks : Option (List Mark))
+    (rings : List (List ℕ)) : Type 0 where
   pub each : (f : ℕ) → f < length rings → IsRing points edges (ring_at rings f)
   -- each side of an edge belongs to at most one ring
-  pub one : (f g u v : ℕ) → f < length rings → g < length rings → Goes (ring_at rings f) u v → Goes (ring_at rings g) u v → f ≡ g
+  pub one : (f g u v : ℕ) → f < length rings → g < length rings → Goes (ring_at rings f) u v
+      → Goes (ring_at rings g) u v → f ≡ g
   pub fit : FitMarks edges rings marks
   -- the sheet is in one piece: a chain of rings joins any two
   pub chained : (f g : ℕ) → f < length rings → g < length rings → AreChained rings f g
@@ -74,5 +79,6 @@ pub record AreRings (points : List Pt) (edges : List EdgeEnds) (marks : Option (
   -- no walk along them goes round a hole: the area isn't positive
   pub no_hole : (walk : List ℕ) → IsOuterWalk edges rings walk → area points walk ≤ℤ pos 0
   -- each ring begins with its least vertex, and the rings are sorted as lists
-  pub least : (f i : ℕ) → f < length rings → i < length (ring_at rings f) → corner (ring_at rings f) 0 ≤ corner (ring_at rings f) i
+  pub least : (f i : ℕ) → f < length rings → i < length (ring_at rings f)
+      → corner (ring_at rings f) 0 ≤ corner (ring_at rings f) i
   pub sorted : (f g : ℕ) → f < g → g < length rings → IsTrue (list_before (ring_at rings f) (ring_at rings g))

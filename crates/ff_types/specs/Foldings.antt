@@ -61,16 +61,21 @@ FitFlags F a b = a ≡ b
 FitFlags _ a b = a ≡ not b
 
 -- Faces have at most one folding.
-pub record IsFolding (points : List Pt) (rings : List (List ℕ)) (sides : List EdgeSides) (marks : List Mark) (scale : ℤ) (images : List Pt) (up : List Bool) : Type 0 where
+pub record IsFolding (points : List Pt) (rings : List (List ℕ)) (sides : List EdgeSides) (marks : List Mark)
+    (scale : ℤ) (images : List Pt) (up : List Bool) : Type 0 where
   pub positive : pos 1 ≤ℤ scale
   pub as_many_points : length images ≡ length points
   pub as_many_flags : length up ≡ length rings
   -- face 0 is up, and stands where it stood, times the scale
   pub first_up : is_up up 0 ≡ true
-  pub first_stays : (i : ℕ) → i < length (ring_at rings 0) → point_at images (corner (ring_at rings 0) i) ≡ scaled scale (point_at points (corner (ring_at rings 0) i))
+  pub first_stays : (i : ℕ) → i < length (ring_at rings 0)
+      → point_at images (corner (ring_at rings 0) i)
+      ≡ scaled scale (point_at points (corner (ring_at rings 0) i))
   -- each face keeps its shape, and is turned over where it is down
-  pub shapes : (f : ℕ) → f < length rings → RingKeepsShape scale (is_up up f) (corners points (ring_at rings f)) (corners images (ring_at rings f))
-  pub flags : (e f g : ℕ) → e < length sides → (sides_at sides e).left ≡ Some f → (sides_at sides e).right ≡ Some g → FitFlags (mark_at marks e) (is_up up f) (is_up up g)
+  pub shapes : (f : ℕ) → f < length rings
+      → RingKeepsShape scale (is_up up f) (corners points (ring_at rings f)) (corners images (ring_at rings f))
+  pub flags : (e f g : ℕ) → e < length sides → (sides_at sides e).left ≡ Some f
+      → (sides_at sides e).right ≡ Some g → FitFlags (mark_at marks e) (is_up up f) (is_up up g)
   -- the scale is the least: no number above 1 divides it and all coordinates
   pub least : (d : ℕ) → 1 < d → DividesAll d scale images → ⊥
 

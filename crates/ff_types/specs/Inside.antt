@@ -23,7 +23,8 @@ depth g f s step = signed (lies_up g f) (height (through (point_at g.images step
 
 -- f is a face, and the place is strictly on the inner side of the image of each of its ring edges
 abbrev pub is_inside : Sheet → ℕ → Place → Bool
-is_inside g f s = is_face g f && list_all (λ step. int_lt (pos 0) (depth g f s step)) (steps (ring_at g.rings f))
+is_inside g f s = is_face g f
+    && list_all (λ step. int_lt (pos 0) (depth g f s step)) (steps (ring_at g.rings f))
 
 -- the faces that the place is inside, by number
 abbrev pub over : Sheet → Place → List ℕ

@@ -12,7 +12,8 @@ pair_at list n = slice_index_or list n (0, 0)
 -- pairs (f, g) with f < g, strictly in order
 pub record AreSorted (list : List (ℕ × ℕ)) : Type 0 where
   pub rising : (n : ℕ) (p : ℕ × ℕ) → slice_get list n ≡ Some p → p.0 < p.1
-  pub sorted : (m n : ℕ) (p q : ℕ × ℕ) → m < n → slice_get list m ≡ Some p → slice_get list n ≡ Some q → IsTrue (is_before p q)
+  pub sorted : (m n : ℕ) (p q : ℕ × ℕ) → m < n → slice_get list m ≡ Some p → slice_get list n ≡ Some q
+      → IsTrue (is_before p q)
 
 -- such pairs, so few that 32 bits number them
 pub record ArePairs (list : List (ℕ × ℕ)) : Type 0 where

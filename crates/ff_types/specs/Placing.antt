@@ -48,7 +48,8 @@ firsts seen (x ∷ xs) = if has_number x seen then firsts seen xs else x ∷ fir
 
 -- The placing order: face 0, and then the faces met, each where it is first met. At most one list is so.
 abbrev pub IsPlacingOrder : List (List ℕ) → List EdgeEnds → List EdgeSides → List ℕ → Type 0
-IsPlacingOrder rings edges sides order = order ≡ firsts [] (0 ∷ map (λ m. m.across) (meetings rings edges sides order))
+IsPlacingOrder rings edges sides order = order
+    ≡ firsts [] (0 ∷ map (λ m. m.across) (meetings rings edges sides order))
 
 -- the meeting breaks the rule of flags: alike over a flat edge, different over a folded one
 abbrev pub Breaks : List Mark → List Bool → Meeting → Type 0
@@ -56,7 +57,8 @@ Breaks marks up m = FitFlags (mark_at marks m.edge) (is_up up m.face) (is_up up 
 
 -- the meeting is the first with its face across
 abbrev pub IsParent : List Meeting → ℕ → Meeting → Type 0
-IsParent all i m = (slice_get all i ≡ Some m) × (m.across ≢ 0) × ((j : ℕ) (k : Meeting) → j < i → slice_get all j ≡ Some k → k.across ≢ m.across)
+IsParent all i m = (slice_get all i ≡ Some m) × (m.across ≢ 0)
+    × ((j : ℕ) (k : Meeting) → j < i → slice_get all j ≡ Some k → k.across ≢ m.across)
 
 -- face 0 is up, and every other face has its flag from its parent edge
 pub record AreFlags (all : List Meeting) (marks : List Mark) (up : List Bool) : Type 0 where

@@ -31,7 +31,8 @@ IsStrictlyIn ring p = (i : ℕ) → i < length ring → pos 0 <ℤ left_of ring 
 
 -- the point (s p + t q) / (s + t) is strictly inside: how far left it is, times s + t, is s times and t times that of p and q
 abbrev pub IsMixStrictlyIn : List Pt → ℕ → Pt → ℕ → Pt → Type 0
-IsMixStrictlyIn ring s p t q = (i : ℕ) → i < length ring → pos 0 <ℤ ((pos s *ℤ left_of ring i p) +ℤ (pos t *ℤ left_of ring i q))
+IsMixStrictlyIn ring s p t q = (i : ℕ) → i < length ring
+    → pos 0 <ℤ ((pos s *ℤ left_of ring i p) +ℤ (pos t *ℤ left_of ring i q))
 
 pub record IsRing (points : List Pt) (edges : List EdgeEnds) (ring : List ℕ) : Type 0 where
   -- at least three different vertices

@@ -34,7 +34,8 @@ abbrev pub sides_at : List EdgeSides → ℕ → EdgeSides
 sides_at sides e = slice_index_or sides e (record { left = None; right = None })
 
 -- The rings, the faces beside each edge and the marks are those of the drawing.
-pub record AreFaces (points : List Pt) (edges : List EdgeEnds) (marks : Option (List Mark)) (rings : List (List ℕ)) (sides : List EdgeSides) (filled_in : List Mark) : Type 0 where
+pub record AreFaces (points : List Pt) (edges : List EdgeEnds) (marks : Option (List Mark))
+    (rings : List (List ℕ)) (sides : List EdgeSides) (filled_in : List Mark) : Type 0 where
   pub rings_are : AreRings points edges marks rings
   pub as_many_sides : length sides ≡ length edges
   pub sides_are : (e : ℕ) → e < length edges → AreSides rings (edge_at edges e) (sides_at sides e)

@@ -38,9 +38,11 @@ terms_of g (TacoTaco e k) =
     ∷ (lesser g k, greater g k)
     ∷ []
 terms_of g (TacoFace e face at) = (lesser g e, face) ∷ (greater g e, face) ∷ []
-terms_of g (TacoEdge e flat) = (lesser g e, matching g e (lesser g e) flat) ∷ (greater g e, matching g e (lesser g e) flat) ∷ []
+terms_of g (TacoEdge e flat) = (lesser g e, matching g e (lesser g e) flat)
+    ∷ (greater g e, matching g e (lesser g e) flat) ∷ []
 terms_of g (FlatFace flat face at) = (lesser g flat, face) ∷ (greater g flat, face) ∷ []
-terms_of g (FlatEdge flat flat2) = (lesser g flat, matching g flat (lesser g flat) flat2) ∷ (greater g flat, opposed g flat (lesser g flat) flat2) ∷ []
+terms_of g (FlatEdge flat flat2) = (lesser g flat, matching g flat (lesser g flat) flat2)
+    ∷ (greater g flat, opposed g flat (lesser g flat) flat2) ∷ []
 
 -- the value of a term in a set of pairs
 abbrev pub value_in : (ℕ → ℕ → Bool) → ℕ × ℕ → Order

@@ -9,7 +9,8 @@ use Rattle.ff_types.specs.Inside.{steps, depth}
 
 -- none of the places is on the wrong side of the edge's image, and at least one is strictly inside
 abbrev pub witness_edge : Sheet → ℕ → List Place → ℕ × ℕ → Bool
-witness_edge g f places step = list_all (λ s. int_le (pos 0) (depth g f s step)) places && list_any (λ s. int_lt (pos 0) (depth g f s step)) places
+witness_edge g f places step = list_all (λ s. int_le (pos 0) (depth g f s step)) places
+    && list_any (λ s. int_lt (pos 0) (depth g f s step)) places
 
 -- f is a face, and so it is at each of its ring edges
 abbrev pub witness_face : Sheet → List Place → ℕ → Bool

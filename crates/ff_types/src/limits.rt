@@ -8,3 +8,6 @@ pub const MOST_VERTICES: usize = 4096;
 
 /// The most edges of a crease pattern.
 pub const MOST_EDGES: usize = 8192;
+
+/// The most faces of a crease pattern.
+pub const MOST_FACES: usize = 2048;
