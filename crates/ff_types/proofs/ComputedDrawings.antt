@@ -158,7 +158,7 @@ two edges v t =
 abbrev pub two_fit : List Pt → List EdgeEnds → ℕ → ℕ → Bool
 two_fit points edges e k = (e == k) || (not (joins (edge_at edges e).a (edge_at edges e).b (edge_at edges k)) && meets_at_ends points (edge_at edges e) (edge_at edges k))
 
-fit : (points : List Pt) (edges : List EdgeEnds) (e k : ℕ) → IsTrue (two_fit points edges e k)
+pub fit : (points : List Pt) (edges : List EdgeEnds) (e k : ℕ) → IsTrue (two_fit points edges e k)
     → (IsTrue (joins (edge_at edges e).a (edge_at edges e).b (edge_at edges k)) → e ≡ k) × (e ≢ k → MeetAtEnds points (edge_at edges e) (edge_at edges k))
 fit points edges e k t = elim (either (e == k) _ t) [
   | inl h ↦ ((λ j. eqb-true e k h), (λ d. absurd (d (eqb-true e k h))))

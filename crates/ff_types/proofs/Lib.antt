@@ -25,3 +25,4 @@ pub mod SubRings
 pub mod OneCrease
 pub mod CutRings
 pub mod CreaseFaces
+mod RefusalTests
