@@ -26,3 +26,4 @@ pub mod OneCrease
 pub mod CutRings
 pub mod CreaseFaces
 mod RefusalTests
+pub mod FoldedOverlap
