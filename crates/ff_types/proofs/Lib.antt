@@ -27,3 +27,4 @@ pub mod CutRings
 pub mod CreaseFaces
 mod RefusalTests
 pub mod FoldedOverlap
+pub mod CreaseOverlap

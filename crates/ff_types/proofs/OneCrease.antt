@@ -151,6 +151,8 @@ pub record IsChord (points : List Pt) (i j : ℕ) : Type 0 where
   pub right : (x : ℕ) → i ≤ x → x ≤ j → turn (point_at points i) (point_at points j) (point_at points x) ≤ℤ pos 0
   pub left : (x : ℕ) → (x ≤ i) ⊎ (j ≤ x) → x < length points → pos 0 ≤ℤ turn (point_at points i) (point_at points j) (point_at points x)
   pub apart : next (length points) j ≡ i → ⊥
+  -- no edge of the ring lies along it
+  pub across : (k : ℕ) → k < length points → turn (point_at points k) (point_at points (next (length points) k)) (point_at points i) ≡ pos 0 → turn (point_at points k) (point_at points (next (length points) k)) (point_at points j) ≡ pos 0 → ⊥
   pub some_right : (m : ℕ) × (i < m) × (m < j) × (turn (point_at points i) (point_at points j) (point_at points m) <ℤ pos 0)
   pub some_left : (o : ℕ) × ((o < i) ⊎ (j < o)) × (o < length points) × (pos 0 <ℤ turn (point_at points i) (point_at points j) (point_at points o))
 
@@ -265,7 +267,7 @@ module _ (points : List Pt) (near : All IsNear points) (apart : AreApart points)
     ]
 
     pub chord_is : IsChord points i j
-    chord_is = record { far = omega (arith, im, mj); low = jn; right = right_side; left = left_side; apart = not_beside; some_right = (m, im, mj, right); some_left = (o, outside, on, left) }
+    chord_is = record { far = omega (arith, im, mj); low = jn; right = right_side; left = left_side; apart = not_beside; across = not_along; some_right = (m, im, mj, right); some_left = (o, outside, on, left) }
 
     module _ (es : List EdgeEnds) (cycle : IsCycle (length points) es) (c : EdgeEnds) (chord : (c ≡ record { a = i; b = j }) ⊎ (c ≡ record { a = j; b = i })) where
       by_chord {ℓ} : (P : EdgeEnds → Type ℓ) → P (record { a = i; b = j }) → P (record { a = j; b = i }) → P c

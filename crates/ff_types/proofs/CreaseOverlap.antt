@@ -1,0 +1,113 @@
+-- A convex ring folded along a crease: its two faces overlap.
+use Rattle.std.proofs.Common.{◌≡◌, ◌≢◌, ℕ, zero, suc, ◌+◌, ◌<◌, ◌≤◌, ◌⊎◌, inl, inr, refl, sym, ◌∙◌, ap, subst, arith, lit<, ℤ, pos, ◌+ℤ◌, ◌-ℤ◌, ◌*ℤ◌, ◌<ℤ◌, ◌≤ℤ◌, Bool, true, false, not, List, [], ◌∷◌, length}
+use Rattle.std.proofs.lemmas.Bool.{false≢true}
+use Rattle.std.proofs.lemmas.List.{length-map}
+use Rattle.std.specs.Prelude.{neg_ℤ}
+use lib.IntN.{*ℤ-zero}
+use Rattle.std.proofs.lemmas.Int.{ints, by_lt_z}
+use Rattle.ff_whole.specs.declared.points.Pt.{Pt}
+use Rattle.ff_whole.specs.declared.places.Place.{Place}
+use Rattle.ff_whole.specs.Points.{turn, IsNear}
+use Rattle.ff_whole.specs.Places.{IsPlace, place_of, through, height, blend}
+use Rattle.ff_whole.specs.Convex.{next, point_at, IsConvex}
+use Rattle.ff_whole.proofs.Ring.{var, num, ◌⊕◌, ◌⊖◌, ◌⊗◌, opp, solve}
+use Rattle.ff_whole.proofs.Signs.{linear, pos-mul, nonneg-mul}
+use Rattle.ff_whole.proofs.ClosedLists.{next-below}
+use Rattle.ff_whole.proofs.Directions.{turn-first}
+use Rattle.ff_types.specs.Rings.{corner, after, corners, Goes}
+use Rattle.ff_types.specs.Faces.{ring_at}
+use Rattle.ff_types.specs.Foldings.{signed, KeepsShape, RingKeepsShape}
+use Rattle.ff_types.specs.Sheets.{Sheet, lies_up}
+use Rattle.ff_types.specs.Inside.{depth, Overlap}
+use Rattle.ff_types.proofs.ConvexEdges.{turn-last, turn_cycled, turn_swapped}
+use Rattle.ff_types.proofs.SubRings.{corner_point}
+use Rattle.ff_types.proofs.CutRings.{inner, outer, inner_goes, inner_closes, inner_steps, outer_goes, outer_crosses, outer_steps}
+use Rattle.ff_types.proofs.OneCrease.{IsChord}
+use Rattle.ff_types.proofs.FoldedOverlap.{Good, overlap_near}
+
+height_point : (p q r : Pt) → height (through p q) (place_of r) ≡ turn p q r
+height_point p q r = solve (p.x ∷ p.y ∷ q.x ∷ q.y ∷ r.x ∷ r.y ∷ [])
+    (((var 1 ⊖ var 3) ⊗ var 4 ⊕ (var 2 ⊖ var 0) ⊗ var 5) ⊖ ((var 1 ⊖ var 3) ⊗ var 0 ⊕ (var 2 ⊖ var 0) ⊗ var 1) ⊗ num (pos 1))
+    ((var 2 ⊖ var 0) ⊗ (var 5 ⊖ var 1) ⊖ (var 3 ⊖ var 1) ⊗ (var 4 ⊖ var 0)) refl
+
+-- the place in the middle of two points
+abbrev middle : Pt → Pt → Place
+middle a b = record { x = a.x +ℤ b.x; y = a.y +ℤ b.y; w = pos 2 }
+
+height_middle : (p q a b : Pt) → height (through p q) (middle a b) ≡ turn p q a +ℤ turn p q b
+height_middle p q a b = solve (p.x ∷ p.y ∷ q.x ∷ q.y ∷ a.x ∷ a.y ∷ b.x ∷ b.y ∷ [])
+    (((var 1 ⊖ var 3) ⊗ (var 4 ⊕ var 6) ⊕ (var 2 ⊖ var 0) ⊗ (var 5 ⊕ var 7)) ⊖ ((var 1 ⊖ var 3) ⊗ var 0 ⊕ (var 2 ⊖ var 0) ⊗ var 1) ⊗ num (pos 2))
+    (((var 2 ⊖ var 0) ⊗ (var 5 ⊖ var 1) ⊖ (var 3 ⊖ var 1) ⊗ (var 4 ⊖ var 0)) ⊕ ((var 2 ⊖ var 0) ⊗ (var 7 ⊖ var 1) ⊖ (var 3 ⊖ var 1) ⊗ (var 6 ⊖ var 0))) refl
+
+signed_twice : (b : Bool) (z : ℤ) → signed b (signed b z) ≡ z
+signed_twice true z = refl
+signed_twice false z = solve (z ∷ []) (opp (opp (var 0))) (var 0) refl
+
+signed_other : (a b : Bool) (z : ℤ) → a ≡ not b → signed a (signed b z) ≡ neg_ℤ z
+signed_other true true z e = absurd (false≢true (sym e))
+signed_other true false z e = refl
+signed_other false true z e = refl
+signed_other false false z e = absurd (false≢true e)
+
+signed_plus : (b : Bool) (x y : ℤ) → signed b (x +ℤ y) ≡ signed b x +ℤ signed b y
+signed_plus true x y = refl
+signed_plus false x y = solve (x ∷ y ∷ []) (opp (var 0 ⊕ var 1)) (opp (var 0) ⊕ opp (var 1)) refl
+
+-- the vertex stands in the list
+pub record Listed (list : List ℕ) (x : ℕ) : Type 0 where
+  pub at : ℕ
+  pub inside : at < length list
+  pub there : corner list at ≡ x
+
+from_listed : (list : List ℕ) (u v : ℕ) → Goes list u v → Listed list u
+from_listed list u v g = record { at = g.place; inside = g.inside; there = g.from }
+
+to_listed : (list : List ℕ) (u v : ℕ) → Goes list u v → Listed list v
+to_listed list u v g = record { at = next (length list) g.place; inside = next-below (length list) g.place g.inside; there = g.to }
+
+turns_equal : (p q r u v w : Pt) → p ≡ u → q ≡ v → r ≡ w → turn p q r ≡ turn u v w
+turns_equal p q r u v w e f g = ap (λ x. turn x q r) e ∙ (ap (λ y. turn u y r) f ∙ ap (λ z. turn u v z) g)
+
+module _ (points images : List Pt) (scale : ℤ) where
+  -- three corners of a face keep their turn, times the scale twice, and turned round where the face is down
+  turn_kept : (list : List ℕ) (up : Bool) → RingKeepsShape scale up (corners points list) (corners images list) → (x y z : ℕ) → Listed list x → Listed list y → Listed list z
+      → turn (point_at images x) (point_at images y) (point_at images z) ≡ signed up ((scale *ℤ scale) *ℤ turn (point_at points x) (point_at points y) (point_at points z))
+  turn_kept list up k x y z a b c =
+      turns_equal _ _ _ _ _ _ (at_corner images x a) (at_corner images y b) (at_corner images z c)
+      ∙ ((k a.at b.at c.at (listed_size a) (listed_size b) (listed_size c)).crosses
+      ∙ ap (λ t. signed up ((scale *ℤ scale) *ℤ t)) (sym (turns_equal _ _ _ _ _ _ (at_corner points x a) (at_corner points y b) (at_corner points z c)))) where
+    at_corner : (ps : List Pt) (x : ℕ) (l : Listed list x) → point_at ps x ≡ point_at (corners ps list) l.at
+    at_corner ps x l = sym (corner_point ps list l.at l.inside ∙ ap (point_at ps) l.there)
+
+    listed_size : {x : ℕ} (l : Listed list x) → l.at < length (corners points list)
+    listed_size l = subst (λ m. l.at < m) (sym (length-map list (point_at points))) l.inside
+
+  -- how deep the image of a corner, and the middle of two, lie on the inner side of a step
+  module _ (g : Sheet) (same_images : g.images ≡ images) (f : ℕ) (list : List ℕ) (keeps : RingKeepsShape scale (lies_up g f) (corners points list) (corners images list)) where
+    depth_point : (x y z : ℕ) → depth g f (place_of (point_at images z)) (x, y) ≡ signed (lies_up g f) (turn (point_at images x) (point_at images y) (point_at images z))
+    depth_point x y z = ap (λ ps. signed (lies_up g f) (height (through (point_at ps x) (point_at ps y)) (place_of (point_at images z)))) same_images ∙ ap (signed (lies_up g f)) (height_point (point_at images x) (point_at images y) (point_at images z))
+
+    depth_corner : (x y z : ℕ) → Listed list x → Listed list y → Listed list z → depth g f (place_of (point_at images z)) (x, y) ≡ (scale *ℤ scale) *ℤ turn (point_at points x) (point_at points y) (point_at points z)
+    depth_corner x y z a b c = depth_point x y z ∙ (ap (signed (lies_up g f)) (turn_kept list (lies_up g f) keeps x y z a b c) ∙ signed_twice (lies_up g f) _)
+
+    depth_middle : (x y z w : ℕ) → Listed list x → Listed list y → Listed list z → Listed list w → depth g f (middle (point_at images z) (point_at images w)) (x, y)
+        ≡ (scale *ℤ scale) *ℤ turn (point_at points x) (point_at points y) (point_at points z) +ℤ (scale *ℤ scale) *ℤ turn (point_at points x) (point_at points y) (point_at points w)
+    depth_middle x y z w a b c d = ap (λ ps. signed (lies_up g f) (height (through (point_at ps x) (point_at ps y)) (middle (point_at images z) (point_at images w)))) same_images
+        ∙ (ap (signed (lies_up g f)) (height_middle (point_at images x) (point_at images y) (point_at images z) (point_at images w))
+        ∙ (signed_plus (lies_up g f) _ _
+        ∙ sum (ap (signed (lies_up g f)) (turn_kept list (lies_up g f) keeps x y z a b c) ∙ signed_twice (lies_up g f) _) (ap (signed (lies_up g f)) (turn_kept list (lies_up g f) keeps x y w a b d) ∙ signed_twice (lies_up g f) _))) where
+      sum : {a b c d : ℤ} → a ≡ c → b ≡ d → a +ℤ b ≡ c +ℤ d
+      sum {a} {b} {c} {d} e f = ap (λ z. z +ℤ b) e ∙ ap (λ z. c +ℤ z) f
+
+-- a sum of two numbers that aren't negative and aren't both 0, times a square
+deep : (s a b : ℤ) → pos 1 ≤ℤ s → pos 0 ≤ℤ a → pos 0 ≤ℤ b → (a ≡ pos 0 → b ≡ pos 0 → ⊥) → pos 0 <ℤ ((s *ℤ s) *ℤ a +ℤ (s *ℤ s) *ℤ b)
+deep s a b h k l n =
+    let q = pos-mul s s (omega (arith, ints, h)) (omega (arith, ints, h)) in
+    by_lt_z (pos 0) a
+      (λ m. let x = pos-mul (s *ℤ s) a q m in let y = nonneg-mul (s *ℤ s) b (omega (arith, linear)) l in omega (arith, linear))
+      (λ m. by_lt_z (pos 0) b
+      (λ o. let x = nonneg-mul (s *ℤ s) a (omega (arith, linear)) k in let y = pos-mul (s *ℤ s) b q o in omega (arith, linear))
+      (λ o. absurd (n (omega (arith, linear)) (omega (arith, linear)))))
+
+flat_sum : (s a b : ℤ) → a ≡ pos 0 → b ≡ pos 0 → (s *ℤ s) *ℤ a +ℤ (s *ℤ s) *ℤ b ≡ pos 0
+flat_sum s a b e f = let x = ap (λ z. (s *ℤ s) *ℤ z) e ∙ *ℤ-zero (s *ℤ s) in let y = ap (λ z. (s *ℤ s) *ℤ z) f ∙ *ℤ-zero (s *ℤ s) in omega (arith, linear)
