@@ -1,13 +1,11 @@
 -- Two folded faces on one side of a common edge overlap: near the middle of the edge, a step inwards is inside both.
-use Rattle.std.proofs.Common.{◌≡◌, ◌≢◌, ℕ, zero, suc, ◌+◌, ◌<◌, ◌≤◌, ◌⊎◌, inl, inr, refl, sym, ◌∙◌, ap, subst, arith, lit<, ℤ, pos, negsuc, ◌+ℤ◌, ◌-ℤ◌, ◌*ℤ◌, ◌<ℤ◌, ◌≤ℤ◌, Bool, true, false, ◌&&◌, IsTrue, List, [], ◌∷◌, length}
-use Rattle.std.specs.Prelude.{neg_ℤ, int_lt, T}
+use Rattle.std.proofs.Common.{◌≡◌, ◌≢◌, ℕ, suc, ◌+◌, ◌<◌, ◌≤◌, ◌⊎◌, inl, inr, refl, sym, ◌∙◌, ap, subst, arith, ℤ, pos, negsuc, ◌+ℤ◌, ◌-ℤ◌, ◌*ℤ◌, ◌<ℤ◌, ◌≤ℤ◌, Bool, true, false, ◌&&◌, IsTrue, List, [], ◌∷◌, length}
+use Rattle.std.specs.Prelude.{int_lt, T}
 use Rattle.std.specs.List.{list_all, Contains}
 use Rattle.std.proofs.lemmas.Int.{ints}
-use Rattle.ff_whole.specs.declared.points.Pt.{Pt}
 use Rattle.ff_whole.specs.declared.places.Place.{Place}
 use Rattle.ff_whole.specs.declared.lines.Line.{Line}
-use Rattle.ff_whole.specs.Points.{turn}
-use Rattle.ff_whole.specs.Places.{IsPlace, place_of, through, height, blend}
+use Rattle.ff_whole.specs.Places.{IsPlace, through, height, blend}
 use Rattle.ff_whole.specs.Convex.{next, point_at}
 use Rattle.ff_whole.proofs.Ring.{var, num, ◌⊕◌, ◌⊖◌, ◌⊗◌, opp, solve}
 use Rattle.ff_whole.proofs.Signs.{linear, pos-mul, nonneg-mul, *ℤ-distrib_sub}
@@ -15,11 +13,11 @@ use Rattle.ff_whole.proofs.Laws.{one-*ℤ}
 use lib.IntN.{*ℤ_comm, *ℤ-zero}
 use Rattle.std.proofs.lemmas.Bool.{cases_lt, lt-ltb}
 use Rattle.std.proofs.lemmas.Bool.Decides.{nat_tests}
-use Rattle.ff_types.specs.Rings.{corner, after, Goes}
+use Rattle.ff_types.specs.Rings.{corner, Goes}
 use Rattle.ff_types.specs.Faces.{ring_at}
 use Rattle.ff_types.specs.Foldings.{signed}
-use Rattle.ff_types.specs.Sheets.{Sheet, is_face, lies_up}
-use Rattle.ff_types.specs.Inside.{steps, steps_from, depth, is_inside, Overlap}
+use Rattle.ff_types.specs.Sheets.{Sheet, lies_up}
+use Rattle.ff_types.specs.Inside.{steps, steps_from, depth, Overlap}
 use Rattle.ff_types.proofs.Memberships.{by_member, no_member, first_member, later_member}
 
 -- ---- depths are linear
@@ -82,8 +80,8 @@ step_at first u [] x y c = by_member (u, first) [] (x, y) (λ e. record { at = 0
 step_at first u (v ∷ rest) x y c = by_member (u, v) (steps_from first v rest) (x, y)
     (λ e. record { at = 0; inside = omega arith; from = ap (λ p. p.0) e; inner = λ h. ap (λ p. p.1) e; last = λ h. absurd (omega (arith, h)) })
     (λ n. let s = step_at first v rest x y n in record { at = suc s.at; inside = omega (arith, s.inside); from = s.from; inner = λ h. subst (λ k. corner (u ∷ v ∷ rest) k ≡ y) (shift s.at) (s.inner (omega (arith, h))); last = λ h. s.last (omega (arith, h)) }) c where
-  shift : (k : ℕ) → suc (k + 1) ≡ suc k + 1
-  shift k = omega arith
+      shift : (k : ℕ) → suc (k + 1) ≡ suc k + 1
+      shift k = omega arith
 
 next_is : (m a : ℕ) → a < m → ((a + 1 < m) × (next m a ≡ a + 1)) ⊎ ((a + 1 ≡ m) × (next m a ≡ 0))
 next_is m a h = elim (cases_lt (a + 1) m) [ inl l ↦ inl (l, grind (arith, nat_tests, l)) | inr l ↦ inr (omega (arith, h, l), grind (arith, nat_tests, l)) ]
