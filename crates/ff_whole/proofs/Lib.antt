@@ -1,10 +1,30 @@
+-- the kit: identities, signs, sizes
 pub mod Laws
 pub mod Ring
 pub mod Signs
 pub mod Bounds
 pub mod Formulas
+pub mod ThreeTerms
+pub mod Offsets
+-- places and lines
 pub mod Reducing
 pub mod LinesMeeting
+pub mod Combinations
+pub mod Sums
+pub mod Shifts
+pub mod Moves
+pub mod Ratios
+pub mod Exits
+pub mod SharedPlaces
+pub mod Rises
+pub mod Between
+-- points
+pub mod Turns
+pub mod SegmentMeets
+pub mod Triangles
+pub mod Fans
+pub mod Images
+-- convex rings in linear time
 pub mod PointOrder
 pub mod Directions
 pub mod Ranks

@@ -57,6 +57,19 @@ square_nonneg (negsuc n) = omega (arith, ints)
 pub square_pos : (a : ℤ) → a ≢ pos 0 → pos 0 <ℤ (a *ℤ a)
 square_pos a h = by_sign a (λ l. neg-mul_neg a a l l) (λ e. absurd (h e)) (λ l. pos-mul a a l l)
 
+-- ---- sums
+
+pub zero-mul : (a b : ℤ) → a ≡ pos 0 → a *ℤ b ≡ pos 0
+zero-mul a b h = ap (λ z. z *ℤ b) h ∙ zero-*ℤ b
+
+-- what are not below 0 and add up to 0 are 0
+pub sum_zero : (a b : ℤ) → pos 0 ≤ℤ a → pos 0 ≤ℤ b → a +ℤ b ≡ pos 0 → (a ≡ pos 0) × (b ≡ pos 0)
+sum_zero a b h k e = (omega (arith, linear), omega (arith, linear))
+
+pub squares_pos : (a b : ℤ) → (a ≢ pos 0) ⊎ (b ≢ pos 0) → pos 0 <ℤ (a *ℤ a +ℤ b *ℤ b)
+squares_pos a b (inl h) = let p = square_pos a h in let n = square_nonneg b in omega (arith, linear)
+squares_pos a b (inr h) = let n = square_nonneg a in let p = square_pos b h in omega (arith, linear)
+
 -- ---- what may be cancelled
 
 pub pos_from_mul : (a b : ℤ) → pos 0 <ℤ a → pos 0 <ℤ (a *ℤ b) → pos 0 <ℤ b
