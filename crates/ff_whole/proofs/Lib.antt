@@ -17,6 +17,7 @@ pub mod Ratios
 pub mod Exits
 pub mod SharedPlaces
 pub mod Rises
+pub mod OnEdges
 pub mod Between
 -- points
 pub mod Turns
@@ -29,5 +30,6 @@ pub mod PointOrder
 pub mod Directions
 pub mod Ranks
 pub mod ClosedLists
+pub mod ConvexBorders
 pub mod Turning
 pub mod ConvexRings

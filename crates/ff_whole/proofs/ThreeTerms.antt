@@ -18,6 +18,19 @@ dot-flip a b = let a' = point_e 0 in let b' = point_e 2 in solve (point_env a (p
 pub cross-own : (a : Pt) → cross a a ≡ pos 0
 cross-own a = let a' = point_e 0 in solve (point_env a []) (cross_e a' a') (num (pos 0)) refl
 
+-- from a point to itself
+pub cross-none : (u p : Pt) → cross u (minus p p) ≡ pos 0
+cross-none u p = let u' = point_e 0 in let p' = point_e 2 in solve (point_env u (point_env p [])) (cross_e u' (minus_e p' p')) (num (pos 0)) refl
+
+-- from r to p, and on to q
+pub cross-step : (u p q r : Pt) → cross u (minus q r) ≡ cross u (minus p r) +ℤ cross u (minus q p)
+cross-step u p q r = let u' = point_e 0 in let p' = point_e 2 in let q' = point_e 4 in let r' = point_e 6 in
+    solve (point_env u (point_env p (point_env q (point_env r [])))) (cross_e u' (minus_e q' r')) (cross_e u' (minus_e p' r') ⊕ cross_e u' (minus_e q' p')) refl
+
+pub dot-step : (u p q r : Pt) → dot u (minus q r) ≡ dot u (minus p r) +ℤ dot u (minus q p)
+dot-step u p q r = let u' = point_e 0 in let p' = point_e 2 in let q' = point_e 4 in let r' = point_e 6 in
+    solve (point_env u (point_env p (point_env q (point_env r [])))) (dot_e u' (minus_e q' r')) (dot_e u' (minus_e p' r') ⊕ dot_e u' (minus_e q' p')) refl
+
 -- b in the coordinates along and across u
 pub along_x : (u b : Pt) → dot u u *ℤ b.x ≡ dot u b *ℤ u.x -ℤ cross u b *ℤ u.y
 along_x u b = let u' = point_e 0 in let b' = point_e 2 in
