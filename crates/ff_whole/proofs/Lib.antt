@@ -17,6 +17,8 @@ pub mod Ratios
 pub mod Exits
 pub mod SharedPlaces
 pub mod Rises
+pub mod SegmentPoints
+pub mod Searches
 pub mod OnEdges
 pub mod Between
 -- points
