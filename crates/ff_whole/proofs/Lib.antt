@@ -18,6 +18,8 @@ pub mod Exits
 pub mod SharedPlaces
 pub mod Rises
 pub mod SegmentPoints
+pub mod SegmentSigns
+pub mod CyclicOrder
 pub mod Searches
 pub mod OnEdges
 pub mod Between

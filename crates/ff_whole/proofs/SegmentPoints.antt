@@ -40,7 +40,7 @@ pub record IsShared (a b c d : Pt) : Type 0 where
 
 -- ---- the ends, and the segments, change places
 
-pub swap_ends : (a b c d : Pt) → IsShared a b c d → IsShared a b d c
+abbrev pub swap_ends : (a b c d : Pt) → IsShared a b c d → IsShared a b d c
 swap_ends a b c d m = record {
   s = m.s;
   t = m.t;
@@ -57,7 +57,7 @@ swap_ends a b c d m = record {
   within = elim m.within [ inl y ↦ inl y | inr z ↦ inr (z.1, z.0) ];
 }
 
-pub swap_segments : (a b c d : Pt) → IsShared a b c d → IsShared c d a b
+abbrev pub swap_segments : (a b c d : Pt) → IsShared a b c d → IsShared c d a b
 swap_segments a b c d m = record {
   s = m.u;
   t = m.v;
