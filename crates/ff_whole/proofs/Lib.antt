@@ -35,5 +35,7 @@ pub mod Directions
 pub mod Ranks
 pub mod ClosedLists
 pub mod ConvexBorders
+pub mod Areas
+pub mod Slabs
 pub mod Turning
 pub mod ConvexRings

@@ -3,7 +3,7 @@ use Rattle.std.proofs.Common.{◌≡◌, ℕ, zero, suc, ◌<◌, refl, arith, �
 use Rattle.std.proofs.lemmas.Int.{by_lt_z}
 use Rattle.ff_whole.proofs.Formulas.{PointE, point_e, point_env, turn_e, line_e, place_e, place_env, line_env, height_e, through_e}
 use Rattle.ff_whole.proofs.Ring.{Expr, num, ◌⊕◌, ◌⊗◌, solve}
-use Rattle.ff_whole.proofs.Signs.{linear, nonneg-mul, nonneg_from_mul}
+use Rattle.ff_whole.proofs.Signs.{linear, pos-mul, nonneg-mul, pos_from_mul, nonneg_from_mul}
 use Rattle.ff_whole.specs.Points.{turn}
 use Rattle.ff_whole.specs.Places.{place_of, through, height}
 use Rattle.ff_whole.specs.declared.points.Pt.{Pt}
@@ -58,6 +58,16 @@ not_right-triangle l p q r m t a b c f g h =
       nonneg-mul (height (through r p) m) (height l (place_of q)) b g,
       nonneg-mul (height (through p q) m) (height l (place_of r)) c h,
     ))
+
+-- and left of each line that all corners are left of, where it isn't on the first two sides
+pub left-triangle : (l : Line) (p q r : Pt) (m : Place) → pos 0 <ℤ turn p q r
+    → pos 0 <ℤ height (through q r) m → pos 0 ≤ℤ height (through r p) m → pos 0 <ℤ height (through p q) m
+    → pos 0 <ℤ height l (place_of p) → pos 0 <ℤ height l (place_of q) → pos 0 <ℤ height l (place_of r) → pos 0 <ℤ height l m
+left-triangle l p q r m t a b c f g h =
+    let u = pos-mul (height (through q r) m) (height l (place_of p)) a f in
+    let v = nonneg-mul (height (through r p) m) (height l (place_of q)) b (omega (arith, linear)) in
+    let w = pos-mul (height (through p q) m) (height l (place_of r)) c h in
+    pos_from_mul (turn p q r) (height l m) t (omega (arith, linear, height-triangle l p q r m))
 
 -- ---- a row of signs
 
