@@ -1,12 +1,13 @@
 -- A place that is right of no edge of a convex ring, and on the line of one of them, lies on one of its edges.
 -- From the edge on whose line it is, the ring is walked towards the place. Until it is passed, each edge keeps to that
 -- line, and each step comes closer to the place by one at least.
-use Rattle.std.proofs.Common.{◌≡◌, ℕ, zero, suc, ◌<◌, arith, ap, ◌∙◌, sym, subst, ℤ, pos, negsuc, ◌+ℤ◌, ◌-ℤ◌, ◌*ℤ◌, ◌<ℤ◌, ◌≤ℤ◌}
+use Rattle.std.proofs.Common.{◌≡◌, ◌⊎◌, inl, inr, ℕ, zero, suc, ◌<◌, arith, ap, ◌∙◌, sym, subst, ℤ, pos, negsuc, ◌+ℤ◌, ◌-ℤ◌, ◌*ℤ◌, ◌<ℤ◌, ◌≤ℤ◌}
 use lib.IntN.{neg_ℤ}
 use Rattle.std.proofs.lemmas.Int.{ints}
 use Rattle.ff_whole.proofs.Signs.{linear, by_sign, pos-mul, zero-mul}
 use Rattle.ff_whole.proofs.ThreeTerms.{cross-own, cross-none, cross-step}
 use Rattle.ff_whole.proofs.ClosedLists.{next-below, prev, prev-below, next-prev}
+use Rattle.ff_whole.proofs.Searches.{search}
 use Rattle.ff_whole.proofs.Offsets.{off, height-off, cross-off, dot-off}
 use Rattle.ff_whole.proofs.OnEdges.{IsOn, long_from_left, on_start, on_between, keeps_on, keeps_on_back, same_direction}
 use Rattle.ff_whole.specs.Points.{minus, dot, cross, turn}
@@ -147,3 +148,13 @@ module _ (n : ℕ) (v : ℕ → Pt) (ring : IsConvexRing n v) (m : Place) (w : p
       (λ l. backward r.0 (prev n j) (prev-below n j hj) (subst (IsPast r.0) (sym (next-prev n j hj)) (record { level = start; past = omega (arith, linear); bound = down })))
       (λ z. forward r.0 j hj start (omega (arith, linear)) up)
       (λ l. forward r.0 j hj start (omega (arith, linear)) up)
+
+-- a place right of no edge is left of each, or on one
+pub inside_or_on : (n : ℕ) (v : ℕ → Pt) → IsConvexRing n v → (m : Place) → pos 0 <ℤ m.w → IsNotOutside n v m → IsOnRing n v m ⊎ ((i : ℕ) → i < n → pos 0 <ℤ height (through (v i) (v (next n i))) m)
+inside_or_on n v ring m w inner = elim (search n (λ i. height (through (v i) (v (next n i))) m ≡ pos 0) (λ i. pos 0 <ℤ height (through (v i) (v (next n i))) m) decide) [
+  | inl r ↦ inl (on_ring n v ring m w inner r.0 r.1 r.2)
+  | inr all ↦ inr all
+]
+  where
+    decide : (i : ℕ) → i < n → (height (through (v i) (v (next n i))) m ≡ pos 0) ⊎ (pos 0 <ℤ height (through (v i) (v (next n i))) m)
+    decide i l = let h = inner i l in by_sign (height (through (v i) (v (next n i))) m) (λ x. absurd (omega (arith, linear))) inl inr

@@ -19,6 +19,7 @@ pub mod SharedPlaces
 pub mod Rises
 pub mod SegmentPoints
 pub mod SegmentSigns
+pub mod SharedPoints
 pub mod CyclicOrder
 pub mod Searches
 pub mod OnEdges
@@ -35,6 +36,7 @@ pub mod Directions
 pub mod Ranks
 pub mod ClosedLists
 pub mod ConvexBorders
+pub mod Reversals
 pub mod Areas
 pub mod Slabs
 pub mod Turning

@@ -129,14 +129,14 @@ zero_from_zero x y u v h pv z = let e = zero-mul x u z in let c = *ℤ_comm y v 
 
 -- the points from a along k
 module _ (k a : Pt) (long : pos 0 <ℤ dot k k) where
-  abbrev at : Pt → ℤ
+  abbrev pub at : Pt → ℤ
   at p = dot k (minus p a)
 
-  abbrev OnLine : Pt → Type 0
+  abbrev pub OnLine : Pt → Type 0
   OnLine p = cross k (minus p a) ≡ pos 0
 
   -- p is within x and y where it is further than x and less far than y
-  within_by : (p x y : Pt) → OnLine p → OnLine x → OnLine y → at x <ℤ at p → at p <ℤ at y → IsWithin x y p
+  pub within_by : (p x y : Pt) → OnLine p → OnLine x → OnLine y → at x <ℤ at p → at p <ℤ at y → IsWithin x y p
   within_by p x y hp hx hy f g =
       let cx = cross-step k p x a in
       let cy = cross-step k p y a in
@@ -149,7 +149,7 @@ module _ (k a : Pt) (long : pos 0 <ℤ dot k k) where
       record { on = turn-from x y p ∙ parallel-both k (minus x p) (minus y p) long zx zy; apart = neg_from_mul (dot k k) (dot (minus x p) (minus y p)) long (omega (arith, linear)) }
 
   -- points that are as far are one
-  one_point : (p q : Pt) → OnLine p → OnLine q → at p ≡ at q → p ≡ q
+  pub one_point : (p q : Pt) → OnLine p → OnLine q → at p ≡ at q → p ≡ q
   one_point p q hp hq h =
       let c = cross-step k q p a in
       let d = dot-step k q p a in
