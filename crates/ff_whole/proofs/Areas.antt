@@ -1,11 +1,11 @@
 -- Twice the signed area of a closed row of points v 0, .., v n, where v n is v 0 again.
-use Rattle.std.proofs.Common.{◌≡◌, ◌≢◌, ◌⊎◌, inl, inr, ℕ, zero, suc, ◌<◌, refl, arith, sym, ap, ◌∙◌, subst, ℤ, pos, ◌+ℤ◌, ◌-ℤ◌, ◌*ℤ◌, ◌<ℤ◌, ◌≤ℤ◌, []}
+use Rattle.std.proofs.Common.{◌≡◌, ◌⊎◌, inl, inr, ℕ, zero, suc, ◌<◌, refl, arith, sym, ap, ◌∙◌, subst, ℤ, pos, ◌+ℤ◌, ◌*ℤ◌, ◌<ℤ◌, ◌≤ℤ◌, []}
 use lib.IntN.{*ℤ-zero}
 use Rattle.ff_whole.proofs.Laws.{*ℤ-distrib_left, one-*ℤ}
-use Rattle.ff_whole.proofs.Formulas.{point_e, point_env, minus_e, cross_e, turn_e, place_e, place_env, through_e, height_e}
-use Rattle.ff_whole.proofs.Ring.{num, ◌⊕◌, ◌⊖◌, ◌⊗◌, solve}
-use Rattle.ff_whole.proofs.Signs.{linear, by_sign, pos_from_mul, zero-mul}
-use Rattle.ff_whole.proofs.ThreeTerms.{cross-none, cross-step, parallel-both}
+use Rattle.ff_whole.proofs.Formulas.{point_e, point_env, minus_e, cross_e, place_e, place_env, through_e, height_e}
+use Rattle.ff_whole.proofs.Ring.{num, ◌⊕◌, ◌⊗◌, solve}
+use Rattle.ff_whole.proofs.Signs.{linear, by_sign, pos_from_mul}
+use Rattle.ff_whole.proofs.ThreeTerms.{cross-step, parallel-both}
 use Rattle.ff_whole.proofs.Searches.{search, sum, sum-pos, sum-zero}
 use Rattle.ff_whole.proofs.Turns.{height-through}
 use Rattle.ff_whole.specs.Points.{minus, dot, cross, turn}

@@ -1,7 +1,7 @@
 -- A place between a lower and an upper edge: right of no line that no end of the two edges is right of.
 -- The lower edge goes to the right, from p to q, and the upper one to the left, from s to r, as in a ring that goes
 -- round counterclockwise.
-use Rattle.std.proofs.Common.{◌≡◌, ◌≢◌, ◌⊎◌, inl, inr, refl, arith, ap, ◌∙◌, ℤ, pos, ◌+ℤ◌, ◌-ℤ◌, ◌*ℤ◌, ◌<ℤ◌, ◌≤ℤ◌, [], ◌∷◌}
+use Rattle.std.proofs.Common.{◌≡◌, ◌≢◌, ◌⊎◌, inl, inr, refl, arith, ℤ, pos, ◌+ℤ◌, ◌-ℤ◌, ◌*ℤ◌, ◌<ℤ◌, ◌≤ℤ◌, [], ◌∷◌}
 use lib.IntN.{*ℤ_comm}
 use Rattle.ff_whole.proofs.Formulas.{point_e, point_env, line_e, line_env, place_e, place_env, place_of_e, through_e, height_e}
 use Rattle.ff_whole.proofs.Ring.{var, num, ◌⊕◌, ◌⊖◌, ◌⊗◌, opp, solve, solve_from}

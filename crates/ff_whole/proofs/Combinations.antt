@@ -1,5 +1,5 @@
 -- Places added up with weights: their heights are added up with the same weights.
-use Rattle.std.proofs.Common.{◌≡◌, refl, arith, ◌∙◌, ℤ, pos, ◌+ℤ◌, ◌*ℤ◌, ◌<ℤ◌, ◌≤ℤ◌, List, [], ◌∷◌}
+use Rattle.std.proofs.Common.{◌≡◌, refl, arith, ◌∙◌, ℤ, pos, ◌+ℤ◌, ◌*ℤ◌, ◌<ℤ◌, ◌≤ℤ◌, [], ◌∷◌}
 use lib.IntN.{neg_ℤ}
 use Rattle.ff_whole.proofs.Formulas.{PlaceE, place_e, place_env, line_e, line_env, height_e}
 use Rattle.ff_whole.proofs.Ring.{Expr, var, num, ◌⊕◌, ◌⊗◌, opp, solve}

@@ -1,7 +1,7 @@
 -- A place that is right of no edge of a convex ring, and on the line of one of them, lies on one of its edges.
 -- From the edge on whose line it is, the ring is walked towards the place. Until it is passed, each edge keeps to that
 -- line, and each step comes closer to the place by one at least.
-use Rattle.std.proofs.Common.{◌≡◌, ◌⊎◌, inl, inr, ℕ, zero, suc, ◌<◌, arith, ap, ◌∙◌, sym, subst, ℤ, pos, negsuc, ◌+ℤ◌, ◌-ℤ◌, ◌*ℤ◌, ◌<ℤ◌, ◌≤ℤ◌}
+use Rattle.std.proofs.Common.{◌≡◌, ◌⊎◌, inl, inr, ℕ, zero, suc, ◌<◌, arith, ◌∙◌, sym, subst, ℤ, pos, negsuc, ◌<ℤ◌, ◌≤ℤ◌}
 use lib.IntN.{neg_ℤ}
 use Rattle.std.proofs.lemmas.Int.{ints}
 use Rattle.ff_whole.proofs.Signs.{linear, by_sign, pos-mul, zero-mul}
@@ -12,7 +12,7 @@ use Rattle.ff_whole.proofs.Offsets.{off, height-off, cross-off, dot-off}
 use Rattle.ff_whole.proofs.OnEdges.{IsOn, long_from_left, on_start, on_between, keeps_on, keeps_on_back, same_direction}
 use Rattle.ff_whole.specs.Points.{minus, dot, cross, turn}
 use Rattle.ff_whole.specs.Convex.{next}
-use Rattle.ff_whole.specs.Places.{through, height, past}
+use Rattle.ff_whole.specs.Places.{through, height}
 use Rattle.ff_whole.specs.declared.points.Pt.{Pt}
 use Rattle.ff_whole.specs.declared.places.Place.{Place}
 

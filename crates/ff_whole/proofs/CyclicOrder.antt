@@ -1,12 +1,12 @@
 -- The order of directions going round counterclockwise, without angles: of the three cross products of three directions
 -- taken in turn, at least two are positive.
-use Rattle.std.proofs.Common.{◌≡◌, ◌⊎◌, inl, inr, refl, arith, ap, ◌∙◌, sym, ℤ, pos, ◌+ℤ◌, ◌-ℤ◌, ◌*ℤ◌, ◌<ℤ◌, ◌≤ℤ◌, []}
-use lib.IntN.{neg_ℤ, *ℤ_comm, *ℤ-zero}
+use Rattle.std.proofs.Common.{◌≡◌, ◌⊎◌, inl, inr, refl, arith, ap, ◌∙◌, pos, ◌+ℤ◌, ◌*ℤ◌, ◌<ℤ◌, ◌≤ℤ◌, []}
+use lib.IntN.{neg_ℤ, *ℤ-zero}
 use Rattle.std.proofs.lemmas.Int.{by_lt_z}
 use Rattle.ff_whole.proofs.Formulas.{point_e, point_env, cross_e}
-use Rattle.ff_whole.proofs.Ring.{◌⊕◌, ◌⊗◌, opp, solve}
+use Rattle.ff_whole.proofs.Ring.{◌⊕◌, ◌⊗◌, solve}
 use Rattle.ff_whole.proofs.Signs.{linear, by_sign, pos-mul, neg-mul_pos, neg-mul_neg, pos_from_mul}
-use Rattle.ff_whole.proofs.ThreeTerms.{cross-flip, dot-flip, plucker, parallel-both, parallel-cross, parallel-dot}
+use Rattle.ff_whole.proofs.ThreeTerms.{cross-flip, dot-flip, parallel-both, parallel-cross, parallel-dot}
 use Rattle.ff_whole.specs.Points.{dot, cross}
 use Rattle.ff_whole.specs.declared.points.Pt.{Pt}
 
@@ -126,8 +126,8 @@ either_way a b c ha hb hc dab dbc dac =
 left_of_left : (u a b c : Pt) → pos 0 <ℤ cross u a → pos 0 <ℤ cross u b → pos 0 <ℤ cross u c → pos 0 <ℤ cross a b → pos 0 <ℤ cross b c → pos 0 <ℤ cross a c
 left_of_left u a b c ha hb hc h k =
     let e : cross u b *ℤ cross a c ≡ cross a b *ℤ cross u c +ℤ cross b c *ℤ cross u a =
-        (let u' = point_e 0 in let a' = point_e 2 in let b' = point_e 4 in let c' = point_e 6 in
-        solve (point_env u (point_env a (point_env b (point_env c [])))) (cross_e u' b' ⊗ cross_e a' c') (cross_e a' b' ⊗ cross_e u' c' ⊕ cross_e b' c' ⊗ cross_e u' a') refl) in
+    (let u' = point_e 0 in let a' = point_e 2 in let b' = point_e 4 in let c' = point_e 6 in
+    solve (point_env u (point_env a (point_env b (point_env c [])))) (cross_e u' b' ⊗ cross_e a' c') (cross_e a' b' ⊗ cross_e u' c' ⊕ cross_e b' c' ⊗ cross_e u' a') refl) in
     let p = pos-mul (cross a b) (cross u c) h hc in
     let q = pos-mul (cross b c) (cross u a) k ha in
     pos_from_mul (cross u b) (cross a c) hb (omega (arith, linear))
@@ -136,8 +136,8 @@ left_of_left u a b c ha hb hc h k =
 left_of_left_beyond : (u a b c : Pt) → pos 0 <ℤ cross a u → pos 0 <ℤ cross b u → pos 0 <ℤ cross c u → pos 0 <ℤ cross a b → pos 0 <ℤ cross b c → pos 0 <ℤ cross a c
 left_of_left_beyond u a b c ha hb hc h k =
     let e : cross b u *ℤ cross a c ≡ cross a b *ℤ cross c u +ℤ cross b c *ℤ cross a u =
-        (let u' = point_e 0 in let a' = point_e 2 in let b' = point_e 4 in let c' = point_e 6 in
-        solve (point_env u (point_env a (point_env b (point_env c [])))) (cross_e b' u' ⊗ cross_e a' c') (cross_e a' b' ⊗ cross_e c' u' ⊕ cross_e b' c' ⊗ cross_e a' u') refl) in
+    (let u' = point_e 0 in let a' = point_e 2 in let b' = point_e 4 in let c' = point_e 6 in
+    solve (point_env u (point_env a (point_env b (point_env c [])))) (cross_e b' u' ⊗ cross_e a' c') (cross_e a' b' ⊗ cross_e c' u' ⊕ cross_e b' c' ⊗ cross_e a' u') refl) in
     let p = pos-mul (cross a b) (cross c u) h hc in
     let q = pos-mul (cross b c) (cross a u) k ha in
     pos_from_mul (cross b u) (cross a c) hb (omega (arith, linear))

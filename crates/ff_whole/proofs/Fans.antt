@@ -1,5 +1,5 @@
 -- A place left of each edge of a closed ring, convex or not, is in a triangle of its vertices.
-use Rattle.std.proofs.Common.{◌≡◌, ℕ, suc, ◌<◌, refl, arith, pos, ◌<ℤ◌, ◌≤ℤ◌, []}
+use Rattle.std.proofs.Common.{ℕ, suc, ◌<◌, arith, pos, ◌<ℤ◌, ◌≤ℤ◌}
 use lib.IntN.{*ℤ_comm}
 use Rattle.ff_whole.proofs.Signs.{linear, pos_from_mul}
 use Rattle.ff_whole.proofs.Turns.{height-back}

@@ -1,5 +1,5 @@
 -- What fixes a folded point: its distances and its side.
-use Rattle.std.proofs.Common.{◌≡◌, ◌≢◌, refl, arith, ℤ, pos, ◌+ℤ◌, ◌-ℤ◌, ◌*ℤ◌, ◌<ℤ◌, [], ◌∷◌}
+use Rattle.std.proofs.Common.{◌≡◌, ◌≢◌, refl, arith, ℤ, pos, ◌-ℤ◌, ◌*ℤ◌, ◌<ℤ◌, [], ◌∷◌}
 use Rattle.ff_whole.proofs.Formulas.{point_e, point_env, minus_e, dot_e, turn_e}
 use Rattle.ff_whole.proofs.Ring.{num, ◌⊖◌, ◌⊗◌, opp, solve_from}
 use Rattle.ff_whole.proofs.Signs.{linear, square_nonneg, square_pos, by_sign, zero_from_mul}

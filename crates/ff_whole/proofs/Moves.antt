@@ -1,5 +1,5 @@
 -- A place can be moved a little, off any lines and across none that it is strictly left of.
-use Rattle.std.proofs.Common.{◌≡◌, ◌≢◌, ◌⊎◌, inl, inr, ℕ, suc, ◌+◌, ◌<◌, refl, sym, ◌∙◌, subst, arith, ℤ, pos, ◌<ℤ◌, ◌*ℤ◌, List, [], ◌∷◌}
+use Rattle.std.proofs.Common.{◌≡◌, ◌≢◌, ◌⊎◌, inl, inr, ℕ, suc, ◌+◌, ◌<◌, refl, sym, ◌∙◌, subst, arith, pos, ◌<ℤ◌, ◌*ℤ◌, List, [], ◌∷◌}
 use Rattle.std.specs.List.{All}
 use Rattle.std.proofs.lemmas.Int.{ints}
 use Rattle.std.proofs.lemmas.List.Elements.{All-weaker}

@@ -1,7 +1,7 @@
 -- From a point to a place, times the denominator: heights and pasts are its cross and dot products.
-use Rattle.std.proofs.Common.{◌≡◌, refl, ℤ, pos, ◌+ℤ◌, ◌-ℤ◌, ◌*ℤ◌, []}
+use Rattle.std.proofs.Common.{◌≡◌, refl, ◌+ℤ◌, ◌-ℤ◌, ◌*ℤ◌, []}
 use Rattle.ff_whole.proofs.Formulas.{PointE, point_e, point_env, minus_e, dot_e, cross_e, LineE, line_e, line_env, PlaceE, place_e, place_env, place_of_e, through_e, height_e, past_e}
-use Rattle.ff_whole.proofs.Ring.{Expr, ◌⊕◌, ◌⊖◌, ◌⊗◌, solve}
+use Rattle.ff_whole.proofs.Ring.{◌⊕◌, ◌⊖◌, ◌⊗◌, solve}
 use Rattle.ff_whole.specs.Points.{minus, dot, cross}
 use Rattle.ff_whole.specs.Places.{place_of, through, height, past}
 use Rattle.ff_whole.specs.declared.points.Pt.{Pt}

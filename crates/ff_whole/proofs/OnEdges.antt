@@ -1,8 +1,8 @@
 -- When a place is on the edge from p to q, its ends counted, and what keeps a walk along a convex ring on one line.
-use Rattle.std.proofs.Common.{◌≡◌, ◌⊎◌, inl, inr, refl, arith, ap, ◌∙◌, ℤ, pos, ◌+ℤ◌, ◌-ℤ◌, ◌*ℤ◌, ◌<ℤ◌, ◌≤ℤ◌}
+use Rattle.std.proofs.Common.{◌≡◌, inl, inr, arith, ap, ◌∙◌, ℤ, pos, ◌*ℤ◌, ◌<ℤ◌, ◌≤ℤ◌}
 use lib.IntN.{neg_ℤ, *ℤ-zero, *ℤ_comm}
 use Rattle.ff_whole.proofs.Laws.{neg-*ℤ}
-use Rattle.ff_whole.proofs.Signs.{linear, by_sign, pos-mul, neg-mul_pos, pos-mul_neg, nonneg-mul, zero-mul, square_nonneg, pos_from_mul, nonneg_from_mul, neg_from_mul, zero_from_mul}
+use Rattle.ff_whole.proofs.Signs.{linear, by_sign, neg-mul_pos, pos-mul_neg, nonneg-mul, zero-mul, square_nonneg, nonneg_from_mul, neg_from_mul, zero_from_mul}
 use Rattle.ff_whole.proofs.ThreeTerms.{cross-flip, dot-flip, length_positive, parallel-both, parallel-cross, parallel-dot, parallel-product, nothing}
 use Rattle.ff_whole.proofs.Offsets.{off, height-off, offs-cross, offs-dot, past-sum}
 use Rattle.ff_whole.specs.Points.{minus, dot, cross}

@@ -1,5 +1,5 @@
 -- The least of finitely many ratios.
-use Rattle.std.proofs.Common.{◌≡◌, suc, get_or, refl, arith, ℤ, pos, ◌*ℤ◌, ◌<ℤ◌, ◌≤ℤ◌, List, [], ◌∷◌}
+use Rattle.std.proofs.Common.{suc, get_or, refl, arith, ℤ, pos, ◌*ℤ◌, ◌<ℤ◌, ◌≤ℤ◌, List, [], ◌∷◌}
 use lib.Signed.{≤ℤ_refl}
 use Rattle.std.specs.List.{All, Contains}
 use Rattle.std.proofs.lemmas.Int.{by_lt_z}

@@ -1,12 +1,11 @@
 -- A ring that goes round clockwise, as the image of a face that is down does, read backward: what holds of convex rings
 -- holds of it, with the other side of each edge.
-use Rattle.std.proofs.Common.{◌≡◌, ℕ, suc, ◌+◌, ◌-◌, ◌<◌, arith, sym, subst, ap, ◌∙◌, ℤ, pos, ◌+ℤ◌, ◌-ℤ◌, ◌*ℤ◌, ◌<ℤ◌, ◌≤ℤ◌, nat_lt, if◌then◌else◌}
+use Rattle.std.proofs.Common.{◌≡◌, ℕ, suc, ◌-◌, ◌<◌, arith, sym, subst, ap, ◌∙◌, pos, ◌<ℤ◌, ◌≤ℤ◌}
 use Rattle.std.proofs.lemmas.Bool.Decides.{nat_tests}
 use lib.IntN.{neg_ℤ}
 use Rattle.ff_whole.proofs.Signs.{linear}
 use Rattle.ff_whole.proofs.ClosedLists.{next-below}
 use Rattle.ff_whole.proofs.Turns.{turn-swap, height-back}
-use Rattle.ff_whole.proofs.OnEdges.{IsOn}
 use Rattle.ff_whole.proofs.ConvexBorders.{IsConvexRing, IsOnRing, on_ring}
 use Rattle.ff_whole.specs.Points.{turn}
 use Rattle.ff_whole.specs.Convex.{next}
@@ -83,9 +82,12 @@ on_clockwise n v r m w inner j h on = found (on_ring n (backward n v) (convex_fr
         let k = s.0 in
         let o = s.2 in
         let e = height_other k s.1 in
-        let on = o.on in
-        (back n (next n k), back-below n (next n k) (next-below n k s.1), record {
-          on = omega (arith, linear);
-          after = subst (λ i. pos 0 ≤ℤ past (v (back n (next n k))) (v i) m) (sym (next-back n k s.1)) o.before;
-          before = subst (λ i. pos 0 ≤ℤ past (v i) (v (back n (next n k))) m) (sym (next-back n k s.1)) o.after;
-        })
+        let on = o.on in (
+          back n (next n k),
+          back-below n (next n k) (next-below n k s.1),
+          record {
+            on = omega (arith, linear);
+            after = subst (λ i. pos 0 ≤ℤ past (v (back n (next n k))) (v i) m) (sym (next-back n k s.1)) o.before;
+            before = subst (λ i. pos 0 ≤ℤ past (v i) (v (back n (next n k))) m) (sym (next-back n k s.1)) o.after;
+          },
+        )

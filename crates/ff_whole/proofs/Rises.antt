@@ -5,7 +5,6 @@ use lib.IntN.{*ℤ_comm}
 use Rattle.std.specs.Ordering.{int_cmp, MatchOrdering}
 use Rattle.std.specs.Cmp.{int_cmp_is, int_ranks}
 use Rattle.std.proofs.Common.{Ordering, Less, Equal, Greater}
-use Rattle.std.proofs.lemmas.Int.{ints}
 use Rattle.ff_whole.proofs.Laws.{one-*ℤ, minus_one-*ℤ}
 use Rattle.ff_whole.proofs.Formulas.{place_e, line_e, place_env, line_env, height_e, slant_e, rise_e}
 use Rattle.ff_whole.proofs.Ring.{var, ◌⊕◌, ◌⊖◌, ◌⊗◌, opp, solve, solve_from}

@@ -1,8 +1,6 @@
 -- Searching the numbers below n, and rows of numbers below n.
-use Rattle.std.proofs.Common.{◌≡◌, ◌⊎◌, inl, inr, ℕ, zero, suc, ◌+◌, ◌<◌, ◌≤◌, arith, sym, subst, ap, ◌∙◌, ℤ, pos, ◌+ℤ◌, ◌*ℤ◌, ◌<ℤ◌, ◌≤ℤ◌}
-use lib.IntN.{*ℤ-zero}
+use Rattle.std.proofs.Common.{◌≡◌, ◌⊎◌, inl, inr, ℕ, zero, suc, ◌<◌, arith, sym, subst, ℤ, pos, ◌+ℤ◌, ◌<ℤ◌, ◌≤ℤ◌}
 use Rattle.std.proofs.Math.Nat.{eq-or-lt_of_le}
-use Rattle.ff_whole.proofs.Laws.{*ℤ-distrib_left}
 use Rattle.ff_whole.proofs.Signs.{linear}
 
 below_or_last : (n i : ℕ) → i < suc n → (i < n) ⊎ (i ≡ n)

@@ -1,5 +1,5 @@
 -- Where two segments cross: computed from either one, it is one place.
-use Rattle.std.proofs.Common.{◌≡◌, refl, pos, ◌*ℤ◌, []}
+use Rattle.std.proofs.Common.{◌≡◌, refl, []}
 use lib.IntN.{neg_ℤ}
 use Rattle.ff_whole.proofs.Formulas.{PointE, PlaceE, point_e, point_env, turn_e, place_of_e}
 use Rattle.ff_whole.proofs.Ring.{opp, solve}
@@ -7,7 +7,6 @@ use Rattle.ff_whole.proofs.Combinations.{combine, combine_e}
 use Rattle.ff_whole.specs.Points.{turn}
 use Rattle.ff_whole.specs.Places.{place_of}
 use Rattle.ff_whole.specs.declared.points.Pt.{Pt}
-use Rattle.ff_whole.specs.declared.lines.Line.{Line}
 use Rattle.ff_whole.specs.declared.places.Place.{Place}
 
 abbrev pub on_one : Pt → Pt → Pt → Pt → Place

@@ -1,6 +1,6 @@
 -- A point of two segments that isn't an end of both, and the signs that tell of one. The forward way: from signs to weights.
-use Rattle.std.proofs.Common.{◌≡◌, ◌⊎◌, inl, inr, refl, arith, ap, ◌∙◌, sym, ℤ, pos, ◌+ℤ◌, ◌-ℤ◌, ◌*ℤ◌, ◌<ℤ◌, ◌≤ℤ◌, [], ◌∷◌}
-use lib.IntN.{neg_ℤ, zero-*ℤ}
+use Rattle.std.proofs.Common.{◌≡◌, ◌⊎◌, inl, inr, refl, arith, ◌∙◌, sym, ℤ, pos, ◌+ℤ◌, ◌-ℤ◌, ◌*ℤ◌, ◌<ℤ◌, ◌≤ℤ◌, [], ◌∷◌}
+use lib.IntN.{neg_ℤ}
 use Rattle.ff_whole.proofs.Formulas.{point_e, point_env, minus_e, dot_e, cross_e, turn_e}
 use Rattle.ff_whole.proofs.Ring.{var, num, ◌⊕◌, ◌⊖◌, ◌⊗◌, opp, solve, solve_from}
 use Rattle.ff_whole.proofs.Signs.{linear, zero-mul}

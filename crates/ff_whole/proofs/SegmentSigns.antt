@@ -1,10 +1,10 @@
 -- The other way: from a point that two segments share, and that isn't an end of both, to the signs.
-use Rattle.std.proofs.Common.{◌≡◌, ◌≢◌, ◌⊎◌, inl, inr, refl, arith, ap, ◌∙◌, sym, ℤ, pos, ◌+ℤ◌, ◌-ℤ◌, ◌*ℤ◌, ◌<ℤ◌, ◌≤ℤ◌, [], ◌∷◌}
+use Rattle.std.proofs.Common.{◌≡◌, ◌⊎◌, inl, inr, refl, arith, ap, ◌∙◌, ℤ, pos, ◌+ℤ◌, ◌-ℤ◌, ◌*ℤ◌, ◌<ℤ◌, ◌≤ℤ◌, [], ◌∷◌}
 use lib.IntN.{neg_ℤ, *ℤ_comm}
 use Rattle.std.proofs.lemmas.Int.{by_lt_z}
 use Rattle.ff_whole.proofs.Formulas.{point_e, point_env, minus_e, dot_e, cross_e, turn_e}
 use Rattle.ff_whole.proofs.Ring.{var, num, ◌⊕◌, ◌⊖◌, ◌⊗◌, opp, solve, solve_from}
-use Rattle.ff_whole.proofs.Signs.{linear, by_sign, pos-mul, neg-mul_pos, pos-mul_neg, nonneg-mul, nonneg-mul_nonpos, zero-mul, pos_from_mul, neg_from_mul, zero_from_mul}
+use Rattle.ff_whole.proofs.Signs.{linear, by_sign, pos-mul, neg-mul_pos, nonneg-mul, nonneg-mul_nonpos, zero-mul, pos_from_mul, neg_from_mul, zero_from_mul}
 use Rattle.ff_whole.proofs.ThreeTerms.{cross-none, cross-own, cross-step, dot-flip, dot-step, parallel-both, parallel-dot, nothing}
 use Rattle.ff_whole.proofs.SegmentPoints.{IsWithin, AreCrossing, IsShared, swap_ends, swap_segments, turn-back, turn-sums, turn-from}
 use Rattle.ff_whole.specs.Points.{minus, dot, cross, turn}
@@ -174,8 +174,8 @@ less_far c d n s t u v w h hn hs hu hv k =
     let w0 : s +ℤ t -ℤ (u +ℤ v) ≡ pos 0 = omega (arith, linear) in
     let h0 : c *ℤ u +ℤ d *ℤ v -ℤ n *ℤ t ≡ pos 0 = omega (arith, linear) in
     let e : v *ℤ (n -ℤ d) ≡ n *ℤ s +ℤ (c -ℤ n) *ℤ u =
-        solve_from (c ∷ d ∷ n ∷ s ∷ t ∷ u ∷ v ∷ []) (record { by = opp (var 2); zero = var 3 ⊕ var 4 ⊖ (var 5 ⊕ var 6) } ∷ record { by = opp (num (pos 1)); zero = var 0 ⊗ var 5 ⊕ var 1 ⊗ var 6 ⊖ var 2 ⊗ var 4 } ∷ [])
-        (var 6 ⊗ (var 2 ⊖ var 1)) (var 2 ⊗ var 3 ⊕ (var 0 ⊖ var 2) ⊗ var 5) refl (w0, (h0, tt)) in
+    solve_from (c ∷ d ∷ n ∷ s ∷ t ∷ u ∷ v ∷ []) (record { by = opp (var 2); zero = var 3 ⊕ var 4 ⊖ (var 5 ⊕ var 6) } ∷ record { by = opp (num (pos 1)); zero = var 0 ⊗ var 5 ⊕ var 1 ⊗ var 6 ⊖ var 2 ⊗ var 4 } ∷ [])
+    (var 6 ⊗ (var 2 ⊖ var 1)) (var 2 ⊗ var 3 ⊕ (var 0 ⊖ var 2) ⊗ var 5) refl (w0, (h0, tt)) in
     let p = pos-mul n s hn hs in
     let q = nonneg-mul (c -ℤ n) u (omega (arith, linear)) (omega (arith, linear)) in
     let r = pos_from_mul v (n -ℤ d) hv (omega (arith, linear)) in

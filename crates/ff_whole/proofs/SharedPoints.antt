@@ -1,13 +1,12 @@
 -- The crossing test with whole weights: a point (s a + t b) / (s + t) of one segment that is (u c + v d) / (u + v) of the other.
-use Rattle.std.proofs.Common.{◌≡◌, ◌⊎◌, inl, inr, ℕ, ◌+◌, ◌<◌, arith, refl, sym, ap, ◌∙◌, ℤ, pos, negsuc, ◌+ℤ◌, ◌-ℤ◌, ◌*ℤ◌, ◌<ℤ◌, ◌≤ℤ◌}
+use Rattle.std.proofs.Common.{◌≡◌, ◌⊎◌, inl, inr, ℕ, ◌+◌, ◌<◌, arith, ap, ℤ, pos, negsuc, ◌+ℤ◌, ◌*ℤ◌, ◌<ℤ◌, ◌≤ℤ◌}
 use Rattle.std.proofs.lemmas.Int.{ints, by_lt_z}
-use lib.IntN.{neg_ℤ}
 use Rattle.ff_whole.proofs.Signs.{linear, by_sign, zero-mul}
 use Rattle.ff_whole.proofs.ThreeTerms.{cross-none, cross-own, dot-step, length_positive}
 use Rattle.ff_whole.proofs.Images.{distance_positive}
-use Rattle.ff_whole.proofs.SegmentPoints.{AreCrossing, IsShared, IsWithin, shared_from_crossing}
+use Rattle.ff_whole.proofs.SegmentPoints.{AreCrossing, IsWithin, shared_from_crossing}
 use Rattle.ff_whole.proofs.SegmentSigns.{HaveSameEnds, within_by, one_point, crossing_from_shared}
-use Rattle.ff_whole.specs.Points.{minus, dot, cross, turn, mix}
+use Rattle.ff_whole.specs.Points.{minus, dot, cross, mix}
 use Rattle.ff_whole.specs.declared.points.Pt.{Pt}
 
 -- one point of both segments, with weights of one sum

@@ -1,6 +1,6 @@
 -- A place moved a little keeps every strict sign over finitely many lines, and the way decides the others: n times the
 -- place and once the way, for every n that is large enough. Where the height of the place is 0, that of the way counts.
-use Rattle.std.proofs.Common.{◌≡◌, ◌≢◌, ◌⊎◌, inl, inr, ℕ, suc, ◌+◌, ◌<◌, ◌≤◌, sym, ap, ◌∙◌, arith, ℤ, pos, negsuc, ◌+ℤ◌, ◌*ℤ◌, ◌<ℤ◌, ◌≤ℤ◌, List, [], ◌∷◌}
+use Rattle.std.proofs.Common.{◌≡◌, ◌≢◌, ◌⊎◌, inl, inr, ℕ, suc, ◌+◌, ◌<◌, ◌≤◌, sym, ap, ◌∙◌, arith, ℤ, pos, negsuc, ◌+ℤ◌, ◌*ℤ◌, ◌<ℤ◌, List, [], ◌∷◌}
 use borrow.Author.Differences.{abs_is}
 use lib.IntN.{neg_ℤ, nat_abs, *ℤ-zero}
 use Rattle.std.specs.List.{All}

@@ -1,18 +1,17 @@
 -- A place left of each edge of a ring has edges on both sides of it in x, one that passes it to the right and one to the
 -- left. The ring's vertices are v 0, .., v (n - 1); it need not be convex.
-use Rattle.std.proofs.Common.{◌≡◌, ◌≢◌, ◌⊎◌, inl, inr, ℕ, zero, suc, ◌+◌, ◌-◌, ◌<◌, ◌≤◌, refl, arith, sym, ap, ◌∙◌, subst, ℤ, pos, ◌+ℤ◌, ◌-ℤ◌, ◌*ℤ◌, ◌<ℤ◌, ◌≤ℤ◌, [], ◌∷◌}
+use Rattle.std.proofs.Common.{◌≡◌, ◌≢◌, inl, inr, ℕ, zero, suc, ◌<◌, refl, arith, sym, subst, ℤ, pos, ◌<ℤ◌, ◌≤ℤ◌, []}
 use lib.IntN.{neg_ℤ}
 use Rattle.std.proofs.lemmas.Int.{by_lt_z}
 use Rattle.std.proofs.lemmas.Bool.Decides.{nat_tests}
 use Rattle.ff_whole.proofs.Formulas.{point_e, point_env, place_e, place_env, place_of_e, through_e, height_e}
-use Rattle.ff_whole.proofs.Ring.{var, num, ◌⊕◌, ◌⊖◌, ◌⊗◌, opp, solve}
-use Rattle.ff_whole.proofs.Signs.{linear, by_sign, pos-mul, nonneg-mul, pos_from_mul}
+use Rattle.ff_whole.proofs.Ring.{num, ◌⊖◌, ◌⊗◌, opp, solve}
+use Rattle.ff_whole.proofs.Signs.{linear, by_sign}
 use Rattle.ff_whole.proofs.ClosedLists.{next-below, walk, walk-below, walk-to}
 use Rattle.ff_whole.proofs.Searches.{search}
 use Rattle.ff_whole.proofs.Triangles.{sign_turns}
 use Rattle.ff_whole.proofs.Fans.{IsInside, left-ring}
 use Rattle.ff_whole.proofs.Between.{after}
-use Rattle.ff_whole.proofs.Turns.{height-back}
 use Rattle.ff_whole.specs.Convex.{next}
 use Rattle.ff_whole.specs.Places.{place_of, through, height}
 use Rattle.ff_whole.specs.declared.points.Pt.{Pt}
@@ -36,11 +35,15 @@ height-same p m = let p' = point_e 0 in let m' = place_e 2 in solve (point_env p
 pub inside_fan : (n : ℕ) (v : ℕ → Pt) (m : Place) → pos 0 <ℤ m.w → 0 < n → IsInsideRing n v m → (k : ℕ) × (n ≡ suc (suc k)) × IsInside v k m
 inside_fan zero v m w some h = absurd (omega arith)
 inside_fan (suc zero) v m w some h = let a = h 0 (omega arith) in let z = height-same (v 0) m in absurd (omega (arith, linear))
-inside_fan (suc (suc k)) v m w some h = (k, refl, record {
-  positive = w;
-  edges = λ i l. subst (λ j. pos 0 <ℤ height (through (v i) (v j)) m) (next_suc (suc (suc k)) i (omega arith)) (h i (omega arith));
-  closing = subst (λ j. pos 0 <ℤ height (through (v (suc k)) (v j)) m) (next_last (suc k)) (h (suc k) (omega arith));
-})
+inside_fan (suc (suc k)) v m w some h = (
+  k,
+  refl,
+  record {
+    positive = w;
+    edges = λ i l. subst (λ j. pos 0 <ℤ height (through (v i) (v j)) m) (next_suc (suc (suc k)) i (omega arith)) (h i (omega arith));
+    closing = subst (λ j. pos 0 <ℤ height (through (v (suc k)) (v j)) m) (next_last (suc k)) (h (suc k) (omega arith));
+  },
+)
 
 -- the vertical lines through the place, with what is right of it on the left side, and with what is left of it there
 abbrev rightwards : Place → Line

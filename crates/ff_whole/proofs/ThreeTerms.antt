@@ -1,8 +1,8 @@
 -- Identities of directions with two or three terms, and what they say where two directions are parallel.
-use Rattle.std.proofs.Common.{◌≡◌, ◌≢◌, ◌⊎◌, inl, inr, refl, arith, ap, ◌∙◌, sym, ℤ, pos, ◌+ℤ◌, ◌-ℤ◌, ◌*ℤ◌, ◌<ℤ◌, ◌≤ℤ◌, []}
+use Rattle.std.proofs.Common.{◌≡◌, ◌≢◌, ◌⊎◌, refl, arith, pos, ◌+ℤ◌, ◌-ℤ◌, ◌*ℤ◌, ◌<ℤ◌, []}
 use lib.IntN.{neg_ℤ, *ℤ_comm}
 use Rattle.ff_whole.proofs.Ring.{num, ◌⊕◌, ◌⊖◌, ◌⊗◌, opp, solve}
-use Rattle.ff_whole.proofs.Signs.{linear, zero-mul, squares_pos, square_pos, by_sign, pos-mul, pos-mul_neg, nonneg-mul, zero_from_mul, pos_from_mul, nonneg_from_mul}
+use Rattle.ff_whole.proofs.Signs.{linear, zero-mul, squares_pos, zero_from_mul}
 use Rattle.ff_whole.proofs.Formulas.{point_e, point_env, minus_e, dot_e, cross_e}
 use Rattle.ff_whole.specs.Points.{minus, dot, cross}
 use Rattle.ff_whole.specs.declared.points.Pt.{Pt}
@@ -85,8 +85,8 @@ parallel-both u a b long f g =
 pub parallel-cross : (u b w : Pt) → cross u b ≡ pos 0 → dot u u *ℤ cross w b ≡ dot u b *ℤ cross w u
 parallel-cross u b w h =
     let e : dot u u *ℤ cross w b ≡ dot u b *ℤ cross w u +ℤ cross u b *ℤ dot u w =
-        (let u' = point_e 0 in let b' = point_e 2 in let w' = point_e 4 in
-        solve (point_env u (point_env b (point_env w []))) (dot_e u' u' ⊗ cross_e w' b') (dot_e u' b' ⊗ cross_e w' u' ⊕ cross_e u' b' ⊗ dot_e u' w') refl) in
+    (let u' = point_e 0 in let b' = point_e 2 in let w' = point_e 4 in
+    solve (point_env u (point_env b (point_env w []))) (dot_e u' u' ⊗ cross_e w' b') (dot_e u' b' ⊗ cross_e w' u' ⊕ cross_e u' b' ⊗ dot_e u' w') refl) in
     let z = zero-mul (cross u b) (dot u w) h in
     omega (arith, linear)
 

@@ -1,12 +1,11 @@
 -- The turn of three points in all orders and over a fourth, and heights over the line through two points.
-use Rattle.std.proofs.Common.{◌≡◌, refl, ℕ, pos, ◌+ℤ◌, ◌-ℤ◌, ◌*ℤ◌, [], ◌∷◌}
+use Rattle.std.proofs.Common.{◌≡◌, refl, pos, ◌+ℤ◌, ◌-ℤ◌, ◌*ℤ◌, []}
 use lib.IntN.{neg_ℤ}
 use Rattle.ff_whole.proofs.Formulas.{point_e, point_env, turn_e, place_e, place_env, place_of_e, through_e, height_e}
-use Rattle.ff_whole.proofs.Ring.{var, num, ◌⊕◌, ◌⊖◌, ◌⊗◌, opp, solve}
-use Rattle.ff_whole.specs.Points.{turn, mix}
+use Rattle.ff_whole.proofs.Ring.{num, ◌⊕◌, ◌⊖◌, ◌⊗◌, opp, solve}
+use Rattle.ff_whole.specs.Points.{turn}
 use Rattle.ff_whole.specs.Places.{place_of, through, height}
 use Rattle.ff_whole.specs.declared.points.Pt.{Pt}
-use Rattle.ff_whole.specs.declared.lines.Line.{Line}
 use Rattle.ff_whole.specs.declared.places.Place.{Place}
 
 -- the height over a line through two points is their turn
