@@ -13,6 +13,7 @@ use Rattle.ff_whole.specs.Places.{place_of, through, height}
 use Rattle.ff_whole.specs.declared.points.Pt.{Pt}
 use Rattle.ff_whole.specs.declared.places.Place.{Place}
 
+-- the cross products of the sides' ends, added up
 abbrev pub area : ℕ → (ℕ → Pt) → ℤ
 area n v = sum n (λ i. cross (v i) (v (suc i)))
 
@@ -36,7 +37,8 @@ cross-way p q r u =
 cross-stay : (p u : Pt) → cross (minus p p) u ≡ pos 0
 cross-stay p u = let p' = point_e 0 in let u' = point_e 2 in solve (point_env p (point_env u [])) (cross_e (minus_e p' p') u') (num (pos 0)) refl
 
-open_heights : (n : ℕ) (v : ℕ → Pt) (m : Place) → heights n v m ≡ m.w *ℤ area n v +ℤ cross (minus (v n) (v 0)) (flat m)
+open_heights : (n : ℕ) (v : ℕ → Pt) (m : Place)
+    → heights n v m ≡ m.w *ℤ area n v +ℤ cross (minus (v n) (v 0)) (flat m)
 open_heights zero v m = let z = *ℤ-zero m.w in let e = cross-stay (v 0) (flat m) in omega (arith, linear)
 open_heights (suc n) v m =
     let a = open_heights n v m in
@@ -53,7 +55,8 @@ closed_heights n v m e =
     omega (arith, linear)
 
 -- the area is positive where some place is right of no side, and left of one
-pub area_positive : (n : ℕ) (v : ℕ → Pt) (m : Place) → v n ≡ v 0 → pos 0 <ℤ m.w → ((i : ℕ) → i < n → pos 0 ≤ℤ height (through (v i) (v (suc i))) m)
+pub area_positive : (n : ℕ) (v : ℕ → Pt) (m : Place) → v n ≡ v 0 → pos 0 <ℤ m.w
+    → ((i : ℕ) → i < n → pos 0 ≤ℤ height (through (v i) (v (suc i))) m)
     → (k : ℕ) → k < n → pos 0 <ℤ height (through (v k) (v (suc k))) m → pos 0 <ℤ area n v
 area_positive n v m e w h k l p =
     let s = sum-pos n (λ i. height (through (v i) (v (suc i))) m) h k l p in
@@ -61,7 +64,8 @@ area_positive n v m e w h k l p =
     pos_from_mul m.w (area n v) w (omega (arith, linear))
 
 -- it is 0 where all points are on one line, from p along u
-pub area_flat : (n : ℕ) (v : ℕ → Pt) (u p : Pt) → v n ≡ v 0 → pos 0 <ℤ dot u u → ((i : ℕ) → cross u (minus (v i) p) ≡ pos 0) → area n v ≡ pos 0
+pub area_flat : (n : ℕ) (v : ℕ → Pt) (u p : Pt) → v n ≡ v 0 → pos 0 <ℤ dot u u
+    → ((i : ℕ) → cross u (minus (v i) p) ≡ pos 0) → area n v ≡ pos 0
 area_flat n v u p e long on =
     let c = closed_heights n v (place_of (v 0)) e in
     let o = one-*ℤ (area n v) in
@@ -72,7 +76,8 @@ area_flat n v u p e long on =
     along i j = let a = cross-step u (v i) (v j) p in let b = on i in let d = on j in omega (arith, linear)
 
 -- a closed row with a positive area that turns right over no side has a point off each side's line
-pub wide_from_area : (n : ℕ) (v : ℕ → Pt) → v n ≡ v 0 → pos 0 <ℤ area n v → ((k : ℕ) → (i : ℕ) × (i < n) × (v k ≡ v i))
+pub wide_from_area : (n : ℕ) (v : ℕ → Pt) → v n ≡ v 0 → pos 0 <ℤ area n v
+    → ((k : ℕ) → (i : ℕ) × (i < n) × (v k ≡ v i))
     → (k : ℕ) → pos 0 <ℤ dot (minus (v (suc k)) (v k)) (minus (v (suc k)) (v k)) → ((i : ℕ) → i < n → pos 0 ≤ℤ turn (v k) (v (suc k)) (v i))
     → (i : ℕ) × (i < n) × (pos 0 <ℤ turn (v k) (v (suc k)) (v i))
 wide_from_area n v e a period k long left = elim (search n (λ i. pos 0 <ℤ turn (v k) (v (suc k)) (v i)) (λ i. turn (v k) (v (suc k)) (v i) ≡ pos 0) decide) [

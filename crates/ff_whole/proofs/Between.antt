@@ -121,7 +121,8 @@ module _ (l : Line) (p q s r : Pt) (m : Place) (t : IsBetweenEdges p q s r m) (h
       wide_low wide_high t.above t.below low_nonneg high_nonneg (height-along l p q m) (height-along_back l r s m)
 
   -- and strictly left of it where it is strictly between the edges, and strictly between the ends of the lower one in x
-  pub left-between : (l.a ≢ pos 0) ⊎ (l.b ≢ pos 0) → pos 0 <ℤ height (through p q) m → pos 0 <ℤ height (through s r) m → pos 0 <ℤ after p m → after q m <ℤ pos 0 → pos 0 <ℤ height l m
+  pub left-between : (l.a ≢ pos 0) ⊎ (l.b ≢ pos 0) → pos 0 <ℤ height (through p q) m
+      → pos 0 <ℤ height (through s r) m → pos 0 <ℤ after p m → after q m <ℤ pos 0 → pos 0 <ℤ height l m
   left-between direction above below right left =
       let weak = not_right-between in
       by_sign (height l m)

@@ -46,7 +46,8 @@ module _ (n : ℕ) (v : ℕ → Pt) (ring : IsConvexRing n v) (m : Place) (w : p
     level : cross (edge j) (off m (v k)) ≡ pos 0
 
   -- an edge on the line has the direction of the j-th
-  onward : (k : ℕ) → k < n → cross (edge j) (minus (v k) (v j)) ≡ pos 0 → cross (edge j) (edge k) ≡ pos 0 → pos 0 <ℤ dot (edge j) (edge k)
+  onward : (k : ℕ) → k < n → cross (edge j) (minus (v k) (v j)) ≡ pos 0 → cross (edge j) (edge k) ≡ pos 0
+      → pos 0 <ℤ dot (edge j) (edge k)
   onward k h on par =
       let o = ring.wide j hj in
       let e = cross-step (edge j) (v k) (v o.0) (v j) in
@@ -73,7 +74,8 @@ module _ (n : ℕ) (v : ℕ → Pt) (ring : IsConvexRing n v) (m : Place) (w : p
       let z = zero-mul (cross (edge j) (edge k)) m.w par in
       record { on_line = omega (arith, linear); level = omega (arith, linear) }
 
-  forward : (fuel k : ℕ) → k < n → IsLevel k → pos 0 ≤ℤ dot (edge j) (off m (v k)) → dot (edge j) (off m (v k)) ≤ℤ pos fuel → IsOnRing n v m
+  forward : (fuel k : ℕ) → k < n → IsLevel k → pos 0 ≤ℤ dot (edge j) (off m (v k))
+      → dot (edge j) (off m (v k)) ≤ℤ pos fuel → IsOnRing n v m
   forward zero k h s near bound = (k, h, on_start (edge j) (v k) (v (next n k)) m w (long j hj) s.level (omega (arith, ints)))
   forward (suc fuel) k h s near bound = by_sign (dot (edge j) (off m (v k)))
       (λ l. absurd (omega (arith, linear)))
@@ -91,7 +93,8 @@ module _ (n : ℕ) (v : ℕ → Pt) (ring : IsConvexRing n v) (m : Place) (w : p
 
   -- ---- backward, from the end of the edge e to its start
 
-  backward_on : (e : ℕ) → e < n → IsLevel (next n e) → dot (edge j) (off m (v (next n e))) <ℤ pos 0 → cross (edge j) (edge e) ≡ pos 0
+  backward_on : (e : ℕ) → e < n → IsLevel (next n e) → dot (edge j) (off m (v (next n e))) <ℤ pos 0
+      → cross (edge j) (edge e) ≡ pos 0
   backward_on e h s back =
       let on = s.on_line in
       let c = cross-step (edge j) (v e) (v (next n e)) (v j) in
@@ -150,11 +153,13 @@ module _ (n : ℕ) (v : ℕ → Pt) (ring : IsConvexRing n v) (m : Place) (w : p
       (λ l. forward r.0 j hj start (omega (arith, linear)) up)
 
 -- a place right of no edge is left of each, or on one
-pub inside_or_on : (n : ℕ) (v : ℕ → Pt) → IsConvexRing n v → (m : Place) → pos 0 <ℤ m.w → IsNotOutside n v m → IsOnRing n v m ⊎ ((i : ℕ) → i < n → pos 0 <ℤ height (through (v i) (v (next n i))) m)
+pub inside_or_on : (n : ℕ) (v : ℕ → Pt) → IsConvexRing n v → (m : Place) → pos 0 <ℤ m.w → IsNotOutside n v m
+    → IsOnRing n v m ⊎ ((i : ℕ) → i < n → pos 0 <ℤ height (through (v i) (v (next n i))) m)
 inside_or_on n v ring m w inner = elim (search n (λ i. height (through (v i) (v (next n i))) m ≡ pos 0) (λ i. pos 0 <ℤ height (through (v i) (v (next n i))) m) decide) [
   | inl r ↦ inl (on_ring n v ring m w inner r.0 r.1 r.2)
   | inr all ↦ inr all
 ]
   where
-    decide : (i : ℕ) → i < n → (height (through (v i) (v (next n i))) m ≡ pos 0) ⊎ (pos 0 <ℤ height (through (v i) (v (next n i))) m)
+    decide : (i : ℕ) → i < n
+        → (height (through (v i) (v (next n i))) m ≡ pos 0) ⊎ (pos 0 <ℤ height (through (v i) (v (next n i))) m)
     decide i l = let h = inner i l in by_sign (height (through (v i) (v (next n i))) m) (λ x. absurd (omega (arith, linear))) inl inr

@@ -18,16 +18,19 @@ IsTurned a b c = (pos 0 <ℤ cross a b) × (pos 0 <ℤ cross b c) ⊎ ((pos 0 <�
 abbrev pub AreDifferent : Pt → Pt → Type 0
 AreDifferent a b = cross a b ≡ pos 0 → dot a b <ℤ pos 0
 
+-- it does not matter which is named first
 pub different_flip : (a b : Pt) → AreDifferent a b → AreDifferent b a
 different_flip a b d z = let e = cross-flip b a in let f = dot-flip a b in let l = d (omega (arith, linear)) in omega (arith, linear)
 
 -- ---- it may begin with any of the three, and goes round one way only
 
+-- it may begin with the second
 pub turned_next : (a b c : Pt) → IsTurned a b c → IsTurned b c a
 turned_next a b c (inl x) = inr (inr x)
 turned_next a b c (inr (inl x)) = inl x
 turned_next a b c (inr (inr x)) = inr (inl x)
 
+-- and goes round one way only
 pub turned_once : (a b c : Pt) → IsTurned a b c → IsTurned a c b → ⊥
 turned_once a b c h k =
     let e = cross-flip a b in
@@ -35,7 +38,8 @@ turned_once a b c h k =
     let g = cross-flip c a in
     clash h k e f g
   where
-    clash : IsTurned a b c → IsTurned a c b → cross b a ≡ neg_ℤ (cross a b) → cross c b ≡ neg_ℤ (cross b c) → cross a c ≡ neg_ℤ (cross c a) → ⊥
+    clash : IsTurned a b c → IsTurned a c b → cross b a ≡ neg_ℤ (cross a b) → cross c b ≡ neg_ℤ (cross b c)
+        → cross a c ≡ neg_ℤ (cross c a) → ⊥
     clash (inl x) (inl y) e f g = let x0 = x.0 in let x1 = x.1 in let y0 = y.0 in let y1 = y.1 in omega (arith, linear)
     clash (inl x) (inr (inl y)) e f g = let x0 = x.0 in let x1 = x.1 in let y0 = y.0 in let y1 = y.1 in omega (arith, linear)
     clash (inl x) (inr (inr y)) e f g = let x0 = x.0 in let x1 = x.1 in let y0 = y.0 in let y1 = y.1 in omega (arith, linear)
@@ -49,7 +53,8 @@ turned_once a b c h k =
 -- ---- opposite directions
 
 -- what is left of a is right of its opposite b
-right_of_opposite : (a b c : Pt) → pos 0 <ℤ dot a a → cross a b ≡ pos 0 → dot a b <ℤ pos 0 → pos 0 <ℤ cross a c → pos 0 <ℤ cross c b
+right_of_opposite : (a b c : Pt) → pos 0 <ℤ dot a a → cross a b ≡ pos 0 → dot a b <ℤ pos 0 → pos 0 <ℤ cross a c
+    → pos 0 <ℤ cross c b
 right_of_opposite a b c long par back h =
     let e = parallel-cross a b c par in
     let f = cross-flip a c in
@@ -57,7 +62,8 @@ right_of_opposite a b c long par back h =
     pos_from_mul (dot a a) (cross c b) long (omega (arith, linear))
 
 -- and the other way
-left_of_opposite : (a b c : Pt) → pos 0 <ℤ dot a a → cross a b ≡ pos 0 → dot a b <ℤ pos 0 → pos 0 <ℤ cross c b → pos 0 <ℤ cross a c
+left_of_opposite : (a b c : Pt) → pos 0 <ℤ dot a a → cross a b ≡ pos 0 → dot a b <ℤ pos 0 → pos 0 <ℤ cross c b
+    → pos 0 <ℤ cross a c
 left_of_opposite a b c long par back h =
     let e = parallel-cross a b c par in
     let f = cross-flip a c in
@@ -68,7 +74,8 @@ left_of_opposite a b c long par back h =
     (λ l. let n = neg-mul_pos (dot a b) (cross c a) back l in absurd (omega (arith, linear)))
 
 -- of three parallel directions two aren't opposite
-one_way : (a b c : Pt) → pos 0 <ℤ dot b b → cross b a ≡ pos 0 → dot b a <ℤ pos 0 → dot b c <ℤ pos 0 → pos 0 <ℤ dot a c
+one_way : (a b c : Pt) → pos 0 <ℤ dot b b → cross b a ≡ pos 0 → dot b a <ℤ pos 0 → dot b c <ℤ pos 0
+    → pos 0 <ℤ dot a c
 one_way a b c long par f g =
     let e = parallel-dot b a c par in
     let p = neg-mul_neg (dot b a) (dot b c) f g in
@@ -77,7 +84,8 @@ one_way a b c long par f g =
 -- ---- three directions of which no two are one go round one way or the other
 
 -- where the first two are opposite
-either_opposite : (a b c : Pt) → pos 0 <ℤ dot a a → pos 0 <ℤ dot b b → AreDifferent a b → AreDifferent b c → AreDifferent a c → cross a b ≡ pos 0 → IsTurned a b c ⊎ IsTurned a c b
+either_opposite : (a b c : Pt) → pos 0 <ℤ dot a a → pos 0 <ℤ dot b b → AreDifferent a b → AreDifferent b c
+    → AreDifferent a c → cross a b ≡ pos 0 → IsTurned a b c ⊎ IsTurned a c b
 either_opposite a b c ha hb dab dbc dac z =
     let back = dab z in
     let e = cross-flip a b in
@@ -93,7 +101,9 @@ either_opposite a b c ha hb dab dbc dac z =
 back_twice : (a b c : Pt) → IsTurned b c a → IsTurned a b c
 back_twice a b c h = turned_next c a b (turned_next b c a h)
 
-pub either_way : (a b c : Pt) → pos 0 <ℤ dot a a → pos 0 <ℤ dot b b → pos 0 <ℤ dot c c → AreDifferent a b → AreDifferent b c → AreDifferent a c → IsTurned a b c ⊎ IsTurned a c b
+-- three directions of which no two are one go round one way or the other
+pub either_way : (a b c : Pt) → pos 0 <ℤ dot a a → pos 0 <ℤ dot b b → pos 0 <ℤ dot c c → AreDifferent a b
+    → AreDifferent b c → AreDifferent a c → IsTurned a b c ⊎ IsTurned a c b
 either_way a b c ha hb hc dab dbc dac =
     let e = cross-flip a b in
     let f = cross-flip b c in
@@ -123,7 +133,8 @@ either_way a b c ha hb hc dab dbc dac =
 -- ---- the order is transitive
 
 -- within half a turn
-left_of_left : (u a b c : Pt) → pos 0 <ℤ cross u a → pos 0 <ℤ cross u b → pos 0 <ℤ cross u c → pos 0 <ℤ cross a b → pos 0 <ℤ cross b c → pos 0 <ℤ cross a c
+left_of_left : (u a b c : Pt) → pos 0 <ℤ cross u a → pos 0 <ℤ cross u b → pos 0 <ℤ cross u c → pos 0 <ℤ cross a b
+    → pos 0 <ℤ cross b c → pos 0 <ℤ cross a c
 left_of_left u a b c ha hb hc h k =
     let e : cross u b *ℤ cross a c ≡ cross a b *ℤ cross u c +ℤ cross b c *ℤ cross u a =
     (let u' = point_e 0 in let a' = point_e 2 in let b' = point_e 4 in let c' = point_e 6 in
@@ -133,7 +144,8 @@ left_of_left u a b c ha hb hc h k =
     pos_from_mul (cross u b) (cross a c) hb (omega (arith, linear))
 
 -- within the other half
-left_of_left_beyond : (u a b c : Pt) → pos 0 <ℤ cross a u → pos 0 <ℤ cross b u → pos 0 <ℤ cross c u → pos 0 <ℤ cross a b → pos 0 <ℤ cross b c → pos 0 <ℤ cross a c
+left_of_left_beyond : (u a b c : Pt) → pos 0 <ℤ cross a u → pos 0 <ℤ cross b u → pos 0 <ℤ cross c u
+    → pos 0 <ℤ cross a b → pos 0 <ℤ cross b c → pos 0 <ℤ cross a c
 left_of_left_beyond u a b c ha hb hc h k =
     let e : cross b u *ℤ cross a c ≡ cross a b *ℤ cross c u +ℤ cross b c *ℤ cross a u =
     (let u' = point_e 0 in let a' = point_e 2 in let b' = point_e 4 in let c' = point_e 6 in
@@ -153,7 +165,9 @@ high u w z (inl x) n = let l = x.0 in absurd (omega (arith, linear))
 high u w z (inr (inl x)) n = x
 high u w z (inr (inr x)) n = let l = x.1 in absurd (omega (arith, linear))
 
-pub turned_on : (u w z y : Pt) → pos 0 <ℤ dot u u → pos 0 <ℤ dot w w → AreDifferent u y → AreDifferent u w → IsTurned u w z → IsTurned u z y → IsTurned u w y
+-- where w comes before z and z before y, going round from u, w comes before y
+pub turned_on : (u w z y : Pt) → pos 0 <ℤ dot u u → pos 0 <ℤ dot w w → AreDifferent u y → AreDifferent u w
+    → IsTurned u w z → IsTurned u z y → IsTurned u w y
 turned_on u w z y hu hw duy duw h k =
     let wu = cross-flip u w in
     let yu = cross-flip u y in

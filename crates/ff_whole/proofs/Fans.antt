@@ -23,13 +23,16 @@ pub record InTriangle (p q r : Pt) (m : Place) : Type 0 where
   pub second : pos 0 <ℤ height (through q r) m
   pub third : pos 0 ≤ℤ height (through r p) m
 
-in_triangle : (p q r : Pt) (m : Place) → pos 0 <ℤ m.w → pos 0 <ℤ height (through p q) m → pos 0 <ℤ height (through q r) m → pos 0 ≤ℤ height (through r p) m → InTriangle p q r m
+in_triangle : (p q r : Pt) (m : Place) → pos 0 <ℤ m.w → pos 0 <ℤ height (through p q) m
+    → pos 0 <ℤ height (through q r) m → pos 0 ≤ℤ height (through r p) m → InTriangle p q r m
 in_triangle p q r m w a b c =
     let e = barycentric_w p q r m in
     let k = *ℤ_comm (turn p q r) m.w in
     record { left = pos_from_mul m.w (turn p q r) w (omega (arith, linear)); first = a; second = b; third = c }
 
-pub fan : (v : ℕ → Pt) (n : ℕ) (m : Place) → IsInside v n m → (i : ℕ) × (i < n) × InTriangle (v 0) (v (suc i)) (v (suc (suc i))) m
+-- the triangle is one of v 0 and two neighbours
+pub fan : (v : ℕ → Pt) (n : ℕ) (m : Place) → IsInside v n m
+    → (i : ℕ) × (i < n) × InTriangle (v 0) (v (suc i)) (v (suc (suc i))) m
 fan v n m h =
     let closing = h.closing in
     let back = height-back (v 0) (v (suc n)) m in
@@ -40,7 +43,8 @@ fan v n m h =
     (r.0, lt, in_triangle (v 0) (v (suc r.0)) (v (suc (suc r.0))) m h.positive r.2 (h.edges (suc r.0) (omega arith)) (omega (arith, linear)))
 
 -- a place inside a ring is right of no line that no vertex is right of
-pub not_right-ring : (v : ℕ → Pt) (n : ℕ) (m : Place) → IsInside v n m → (l : Line) → ((i : ℕ) → i < suc (suc n) → pos 0 ≤ℤ height l (place_of (v i))) → pos 0 ≤ℤ height l m
+pub not_right-ring : (v : ℕ → Pt) (n : ℕ) (m : Place) → IsInside v n m → (l : Line)
+    → ((i : ℕ) → i < suc (suc n) → pos 0 ≤ℤ height l (place_of (v i))) → pos 0 ≤ℤ height l m
 not_right-ring v n m h l all =
     let r = fan v n m h in
     let lt = r.1 in
@@ -51,7 +55,8 @@ not_right-ring v n m h l all =
     (all 0 (omega arith)) (all (suc r.0) (omega arith)) (all (suc (suc r.0)) (omega arith))
 
 -- and left of each line that all vertices are left of
-pub left-ring : (v : ℕ → Pt) (n : ℕ) (m : Place) → IsInside v n m → (l : Line) → ((i : ℕ) → i < suc (suc n) → pos 0 <ℤ height l (place_of (v i))) → pos 0 <ℤ height l m
+pub left-ring : (v : ℕ → Pt) (n : ℕ) (m : Place) → IsInside v n m → (l : Line)
+    → ((i : ℕ) → i < suc (suc n) → pos 0 <ℤ height l (place_of (v i))) → pos 0 <ℤ height l m
 left-ring v n m h l all =
     let r = fan v n m h in
     let lt = r.1 in

@@ -21,7 +21,8 @@ distance_positive u v h =
     by_zero z f g = by_sign z (λ l. g (λ e. absurd (omega (arith, linear)))) f (λ l. g (λ e. absurd (omega (arith, linear))))
 
 -- two points with the same dot and cross product from u to v are one
-pub one_image : (u v w z : Pt) → u ≢ v → dot (minus v u) (minus w u) ≡ dot (minus v u) (minus z u) → turn u v w ≡ turn u v z → w ≡ z
+pub one_image : (u v w z : Pt) → u ≢ v → dot (minus v u) (minus w u) ≡ dot (minus v u) (minus z u)
+    → turn u v w ≡ turn u v z → w ≡ z
 one_image u v w z apart d t =
     let n = distance_positive u v apart in
     let u' = point_e 0 in let v' = point_e 2 in let w' = point_e 4 in let z' = point_e 6 in

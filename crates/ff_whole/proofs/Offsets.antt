@@ -12,9 +12,11 @@ use Rattle.ff_whole.specs.declared.places.Place.{Place}
 abbrev pub off : Place → Pt → Pt
 off m p = record { x = m.x -ℤ (p.x *ℤ m.w); y = m.y -ℤ (p.y *ℤ m.w) }
 
+-- the same as expressions
 abbrev pub off_e : PlaceE → PointE → PointE
 off_e m p = record { x = m.x ⊖ p.x ⊗ m.w; y = m.y ⊖ p.y ⊗ m.w }
 
+-- a height over the line through p and q is a cross product
 pub height-off : (p q : Pt) (m : Place) → height (through p q) m ≡ cross (minus q p) (off m p)
 height-off p q m =
     let p' = point_e 0 in let q' = point_e 2 in let m' = place_e 4 in
@@ -26,6 +28,7 @@ cross-off u p q m =
     let u' = point_e 0 in let p' = point_e 2 in let q' = point_e 4 in let m' = place_e 6 in
     solve (point_env u (point_env p (point_env q (place_env m [])))) (cross_e u' (off_e m' q')) (cross_e u' (off_e m' p') ⊖ cross_e u' (minus_e q' p') ⊗ m'.w) refl
 
+-- the same along u
 pub dot-off : (u p q : Pt) (m : Place) → dot u (off m q) ≡ dot u (off m p) -ℤ dot u (minus q p) *ℤ m.w
 dot-off u p q m =
     let u' = point_e 0 in let p' = point_e 2 in let q' = point_e 4 in let m' = place_e 6 in
@@ -37,6 +40,7 @@ offs-cross p q m =
     let p' = point_e 0 in let q' = point_e 2 in let m' = place_e 4 in
     solve (point_env p (point_env q (place_env m []))) (cross_e (off_e m' p') (off_e m' q')) (m'.w ⊗ height_e (through_e p' q') m') refl
 
+-- and how far past p it is, times the denominator
 pub offs-dot : (p q : Pt) (m : Place) → m.w *ℤ past p q m ≡ dot (off m p) (off m p) -ℤ dot (off m p) (off m q)
 offs-dot p q m =
     let p' = point_e 0 in let q' = point_e 2 in let m' = place_e 4 in
@@ -51,20 +55,24 @@ past-sum p q m =
     solve (point_env p (point_env q (place_env m []))) (past_e p' q' m' ⊕ past_e q' p' m') (dot_e (minus_e q' p') (minus_e q' p') ⊗ m'.w) refl
 
 -- the ends, each times how far the place is from the other one, are the place but for what is across
-pub past-x : (p q : Pt) (m : Place) → past p q m *ℤ q.x +ℤ past q p m *ℤ p.x ≡ dot (minus q p) (minus q p) *ℤ m.x +ℤ height (through p q) m *ℤ (q.y -ℤ p.y)
+pub past-x : (p q : Pt) (m : Place)
+    → past p q m *ℤ q.x +ℤ past q p m *ℤ p.x ≡ dot (minus q p) (minus q p) *ℤ m.x +ℤ height (through p q) m *ℤ (q.y -ℤ p.y)
 past-x p q m =
     let p' = point_e 0 in let q' = point_e 2 in let m' = place_e 4 in
     solve (point_env p (point_env q (place_env m []))) (past_e p' q' m' ⊗ q'.x ⊕ past_e q' p' m' ⊗ p'.x)
     (dot_e (minus_e q' p') (minus_e q' p') ⊗ m'.x ⊕ height_e (through_e p' q') m' ⊗ (q'.y ⊖ p'.y)) refl
 
-pub past-y : (p q : Pt) (m : Place) → past p q m *ℤ q.y +ℤ past q p m *ℤ p.y ≡ dot (minus q p) (minus q p) *ℤ m.y -ℤ height (through p q) m *ℤ (q.x -ℤ p.x)
+-- the same in y
+pub past-y : (p q : Pt) (m : Place)
+    → past p q m *ℤ q.y +ℤ past q p m *ℤ p.y ≡ dot (minus q p) (minus q p) *ℤ m.y -ℤ height (through p q) m *ℤ (q.x -ℤ p.x)
 past-y p q m =
     let p' = point_e 0 in let q' = point_e 2 in let m' = place_e 4 in
     solve (point_env p (point_env q (place_env m []))) (past_e p' q' m' ⊗ q'.y ⊕ past_e q' p' m' ⊗ p'.y)
     (dot_e (minus_e q' p') (minus_e q' p') ⊗ m'.y ⊖ height_e (through_e p' q') m' ⊗ (q'.x ⊖ p'.x)) refl
 
 -- how far along in x
-pub past-along : (p q : Pt) (m : Place) → (q.x -ℤ p.x) *ℤ past p q m ≡ dot (minus q p) (minus q p) *ℤ (m.x -ℤ p.x *ℤ m.w) +ℤ (q.y -ℤ p.y) *ℤ height (through p q) m
+pub past-along : (p q : Pt) (m : Place)
+    → (q.x -ℤ p.x) *ℤ past p q m ≡ dot (minus q p) (minus q p) *ℤ (m.x -ℤ p.x *ℤ m.w) +ℤ (q.y -ℤ p.y) *ℤ height (through p q) m
 past-along p q m =
     let p' = point_e 0 in let q' = point_e 2 in let m' = place_e 4 in
     solve (point_env p (point_env q (place_env m []))) ((q'.x ⊖ p'.x) ⊗ past_e p' q' m')
@@ -82,7 +90,8 @@ height-past l p q m =
     ⊕ d' ⊗ m'.w ⊗ height_e l' (place_of_e p')) refl
 
 -- any line's height from those of both ends, where the place is on the way: times how far it is from the other one
-pub height-ends : (l : Line) (p q : Pt) (m : Place) → past p q m *ℤ height l (place_of q) +ℤ past q p m *ℤ height l (place_of p)
+pub height-ends : (l : Line) (p q : Pt) (m : Place)
+    → past p q m *ℤ height l (place_of q) +ℤ past q p m *ℤ height l (place_of p)
     ≡ dot (minus q p) (minus q p) *ℤ height l m -ℤ (l.b *ℤ (q.x -ℤ p.x) -ℤ l.a *ℤ (q.y -ℤ p.y)) *ℤ height (through p q) m
 height-ends l p q m =
     let l' = line_e 0 in let p' = point_e 3 in let q' = point_e 5 in let m' = place_e 7 in
@@ -91,9 +100,11 @@ height-ends l p q m =
 
 -- ---- past is a height: over the line across the way, so that every law of lines speaks of it
 
+-- the line through p across the way from p to q, with q on its left
 abbrev pub line_across : Pt → Pt → Line
 line_across p q = record { a = q.x -ℤ p.x; b = q.y -ℤ p.y; c = (q.x -ℤ p.x) *ℤ p.x +ℤ (q.y -ℤ p.y) *ℤ p.y }
 
+-- the height over it is how far past p a place is
 pub height-across : (p q : Pt) (m : Place) → height (line_across p q) m ≡ past p q m
 height-across p q m =
     let p' = point_e 0 in let q' = point_e 2 in let m' = place_e 4 in

@@ -17,9 +17,11 @@ use Rattle.ff_whole.specs.declared.places.Place.{Place}
 abbrev pub back : ℕ → ℕ → ℕ
 back n i = n - suc i
 
+-- it is a place of the list
 pub back-below : (n i : ℕ) → i < n → back n i < n
 back-below n i h = omega arith
 
+-- twice backward is forward
 pub back-back : (n i : ℕ) → i < n → back n (back n i) ≡ i
 back-back n i h = omega arith
 
@@ -36,11 +38,13 @@ pub record IsClockwise (n : ℕ) (v : ℕ → Pt) : Type 0 where
   pub right : (i j : ℕ) → i < n → j < n → turn (v i) (v (next n i)) (v j) ≤ℤ pos 0
   pub wide : (i : ℕ) → i < n → (j : ℕ) × (j < n) × (turn (v i) (v (next n i)) (v j) <ℤ pos 0)
 
+-- a clockwise ring read backward is a convex ring
 pub convex_from_clockwise : (n : ℕ) (v : ℕ → Pt) → IsClockwise n v → IsConvexRing n (backward n v)
 convex_from_clockwise n v r = record { left = left; wide = wide }
   where
     -- how far left of the edge after i, read backward, is how far right of the same edge, read forward
-    other_side : (i : ℕ) → i < n → (p : Pt) → turn (v (back n i)) (v (back n (next n i))) p ≡ neg_ℤ (turn (v (back n (next n i))) (v (next n (back n (next n i)))) p)
+    other_side : (i : ℕ) → i < n → (p : Pt)
+        → turn (v (back n i)) (v (back n (next n i))) p ≡ neg_ℤ (turn (v (back n (next n i))) (v (next n (back n (next n i)))) p)
     other_side i h p = turn-swap (v (back n (next n i))) (v (back n i)) p ∙ ap (λ k. neg_ℤ (turn (v (back n (next n i))) (v k) p)) (sym (next-back n i h))
 
     edge : (i : ℕ) → i < n → back n (next n i) < n
@@ -49,7 +53,8 @@ convex_from_clockwise n v r = record { left = left; wide = wide }
     left : (i j : ℕ) → i < n → j < n → pos 0 ≤ℤ turn (v (back n i)) (v (back n (next n i))) (v (back n j))
     left i j h k = let e = other_side i h (v (back n j)) in let f = r.right (back n (next n i)) (back n j) (edge i h) (back-below n j k) in omega (arith, linear)
 
-    wide : (i : ℕ) → i < n → (j : ℕ) × (j < n) × (pos 0 <ℤ turn (v (back n i)) (v (back n (next n i))) (v (back n j)))
+    wide : (i : ℕ) → i < n
+        → (j : ℕ) × (j < n) × (pos 0 <ℤ turn (v (back n i)) (v (back n (next n i))) (v (back n j)))
     wide i h =
         let o = r.wide (back n (next n i)) (edge i h) in
         let e = other_side i h (v o.0) in
@@ -57,11 +62,13 @@ convex_from_clockwise n v r = record { left = left; wide = wide }
         (back n o.0, back-below n o.0 o.1, subst (λ k. pos 0 <ℤ turn (v (back n i)) (v (back n (next n i))) (v k)) (sym (back-back n o.0 o.1)) (omega (arith, linear)))
 
 -- a place that is left of no edge of a clockwise ring, and on the line of one, lies on one of its edges
-pub on_clockwise : (n : ℕ) (v : ℕ → Pt) → IsClockwise n v → (m : Place) → pos 0 <ℤ m.w → ((i : ℕ) → i < n → height (through (v i) (v (next n i))) m ≤ℤ pos 0)
+pub on_clockwise : (n : ℕ) (v : ℕ → Pt) → IsClockwise n v → (m : Place) → pos 0 <ℤ m.w
+    → ((i : ℕ) → i < n → height (through (v i) (v (next n i))) m ≤ℤ pos 0)
     → (j : ℕ) → j < n → height (through (v j) (v (next n j))) m ≡ pos 0 → IsOnRing n v m
 on_clockwise n v r m w inner j h on = found (on_ring n (backward n v) (convex_from_clockwise n v r) m w not_outside (back n (next n j)) (back-below n (next n j) (next-below n j h)) at)
   where
-    height_other : (i : ℕ) → i < n → height (through (v (back n i)) (v (back n (next n i)))) m ≡ neg_ℤ (height (through (v (back n (next n i))) (v (next n (back n (next n i))))) m)
+    height_other : (i : ℕ) → i < n
+        → height (through (v (back n i)) (v (back n (next n i)))) m ≡ neg_ℤ (height (through (v (back n (next n i))) (v (next n (back n (next n i))))) m)
     height_other i h = height-back (v (back n (next n i))) (v (back n i)) m ∙ ap (λ k. neg_ℤ (height (through (v (back n (next n i))) (v k)) m)) (sym (next-back n i h))
 
     not_outside : (i : ℕ) → i < n → pos 0 ≤ℤ height (through (v (back n i)) (v (back n (next n i)))) m

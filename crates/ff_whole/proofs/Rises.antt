@@ -15,7 +15,8 @@ use Rattle.ff_whole.specs.declared.lines.Line.{Line}
 use Rattle.ff_whole.specs.declared.places.Place.{Place}
 
 -- a place of the line at the x of `at` has the height that `rise` says: y / w = rise / (b * at.w)
-pub rise_is : (l : Line) (at p : Place) → height l p ≡ pos 0 → p.x *ℤ at.w ≡ at.x *ℤ p.w → l.b *ℤ at.w *ℤ p.y ≡ rise l at *ℤ p.w
+pub rise_is : (l : Line) (at p : Place) → height l p ≡ pos 0 → p.x *ℤ at.w ≡ at.x *ℤ p.w
+    → l.b *ℤ at.w *ℤ p.y ≡ rise l at *ℤ p.w
 rise_is l at p on same =
     let l' = line_e 0 in let at' = place_e 3 in let p' = place_e 6 in
     let same0 : p.x *ℤ at.w -ℤ at.x *ℤ p.w ≡ pos 0 = omega (arith, linear) in
@@ -24,19 +25,22 @@ rise_is l at p on same =
     (l'.b ⊗ at'.w ⊗ p'.y) ((l'.c ⊗ at'.w ⊖ l'.a ⊗ at'.x) ⊗ p'.w) refl (on, (same0, tt))
 
 -- how two lines' rises differ is how their heights over one place there do
-pub rise-slant : (k l : Line) (at : Place) → rise k at *ℤ l.b -ℤ rise l at *ℤ k.b ≡ (k.c *ℤ l.b -ℤ l.c *ℤ k.b) *ℤ at.w -ℤ slant k l *ℤ at.x
+pub rise-slant : (k l : Line) (at : Place)
+    → rise k at *ℤ l.b -ℤ rise l at *ℤ k.b ≡ (k.c *ℤ l.b -ℤ l.c *ℤ k.b) *ℤ at.w -ℤ slant k l *ℤ at.x
 rise-slant k l at =
     let k' = line_e 0 in let l' = line_e 3 in let at' = place_e 6 in
     solve (line_env k (line_env l (place_env at []))) (rise_e k' at' ⊗ l'.b ⊖ rise_e l' at' ⊗ k'.b) ((k'.c ⊗ l'.b ⊖ l'.c ⊗ k'.b) ⊗ at'.w ⊖ slant_e k' l' ⊗ at'.x) refl
 
 -- so a functional without a y tells it, which has one value at all places of one x
-pub height-slant : (k l : Line) (p : Place) → l.b *ℤ height k p -ℤ k.b *ℤ height l p ≡ slant k l *ℤ p.x -ℤ (k.c *ℤ l.b -ℤ l.c *ℤ k.b) *ℤ p.w
+pub height-slant : (k l : Line) (p : Place)
+    → l.b *ℤ height k p -ℤ k.b *ℤ height l p ≡ slant k l *ℤ p.x -ℤ (k.c *ℤ l.b -ℤ l.c *ℤ k.b) *ℤ p.w
 height-slant k l p =
     let k' = line_e 0 in let l' = line_e 3 in let p' = place_e 6 in
     solve (line_env k (line_env l (place_env p []))) (l'.b ⊗ height_e k' p' ⊖ k'.b ⊗ height_e l' p') (slant_e k' l' ⊗ p'.x ⊖ (k'.c ⊗ l'.b ⊖ l'.c ⊗ k'.b) ⊗ p'.w) refl
 
 -- a place by two others on its line, in one dimension: each times how far the place is from the other one
-pub between-places : (l t p : Place) → (t.x *ℤ p.w -ℤ p.x *ℤ t.w) *ℤ l.x +ℤ (p.x *ℤ l.w -ℤ l.x *ℤ p.w) *ℤ t.x ≡ (t.x *ℤ l.w -ℤ l.x *ℤ t.w) *ℤ p.x
+pub between-places : (l t p : Place)
+    → (t.x *ℤ p.w -ℤ p.x *ℤ t.w) *ℤ l.x +ℤ (p.x *ℤ l.w -ℤ l.x *ℤ p.w) *ℤ t.x ≡ (t.x *ℤ l.w -ℤ l.x *ℤ t.w) *ℤ p.x
 between-places l t p =
     let l' = place_e 0 in let t' = place_e 3 in let p' = place_e 6 in
     solve (place_env l (place_env t (place_env p [])))
@@ -48,7 +52,8 @@ between-places l t p =
 pub cmp-scale : (c a b : ℤ) → pos 0 <ℤ c → int_cmp (c *ℤ a) (c *ℤ b) ≡ int_cmp a b
 cmp-scale c a b h = sym (int_cmp_is (c *ℤ a) (c *ℤ b) (int_cmp a b) (scaled (int_cmp a b) (int_ranks a b)))
   where
-    scaled : (r : Ordering) → MatchOrdering r (a <ℤ b) (a ≡ b) (b <ℤ a) → MatchOrdering r ((c *ℤ a) <ℤ (c *ℤ b)) (c *ℤ a ≡ c *ℤ b) ((c *ℤ b) <ℤ (c *ℤ a))
+    scaled : (r : Ordering) → MatchOrdering r (a <ℤ b) (a ≡ b) (b <ℤ a)
+        → MatchOrdering r ((c *ℤ a) <ℤ (c *ℤ b)) (c *ℤ a ≡ c *ℤ b) ((c *ℤ b) <ℤ (c *ℤ a))
     scaled Less m = lt-mul_left c a b h m
     scaled Equal m = ap (λ z. c *ℤ z) m
     scaled Greater m = lt-mul_left c b a h m
@@ -66,7 +71,8 @@ pub record IsThere (l : Line) (at p : Place) : Type 0 where
   pub same_x : p.x *ℤ at.w ≡ at.x *ℤ p.w
 
 -- `cmp_height` compares the y of the two lines' places there
-pub height_cmp-is : (k l : Line) (at p q : Place) → k.b ≢ pos 0 → l.b ≢ pos 0 → pos 0 <ℤ at.w → IsThere k at p → IsThere l at q → height_cmp k l at ≡ int_cmp (p.y *ℤ q.w) (q.y *ℤ p.w)
+pub height_cmp-is : (k l : Line) (at p q : Place) → k.b ≢ pos 0 → l.b ≢ pos 0 → pos 0 <ℤ at.w → IsThere k at p
+    → IsThere l at q → height_cmp k l at ≡ int_cmp (p.y *ℤ q.w) (q.y *ℤ p.w)
 height_cmp-is k l at p q nk nl w hp hq =
     let s = int_signum (k.b *ℤ l.b) in
     let steep = size-sign (k.b *ℤ l.b) (product_apart k.b l.b nk nl) in
@@ -79,7 +85,8 @@ height_cmp-is k l at p q nk nl w hp hq =
     product_apart : (a b : ℤ) → a ≢ pos 0 → b ≢ pos 0 → a *ℤ b ≢ pos 0
     product_apart a b f g e = elim (zero_product a b e) [ inl z ↦ f z | inr z ↦ g z ]
 
-    by : (s kb lb w py pw qw r : ℤ) → kb *ℤ w *ℤ py ≡ r *ℤ pw → pw *ℤ qw *ℤ (s *ℤ (r *ℤ lb)) ≡ s *ℤ (kb *ℤ lb) *ℤ w *ℤ (py *ℤ qw)
+    by : (s kb lb w py pw qw r : ℤ) → kb *ℤ w *ℤ py ≡ r *ℤ pw
+        → pw *ℤ qw *ℤ (s *ℤ (r *ℤ lb)) ≡ s *ℤ (kb *ℤ lb) *ℤ w *ℤ (py *ℤ qw)
     by s kb lb w py pw qw r e =
         let z : kb *ℤ w *ℤ py -ℤ r *ℤ pw ≡ pos 0 = omega (arith, linear) in
         solve_from (s ∷ kb ∷ lb ∷ w ∷ py ∷ pw ∷ qw ∷ r ∷ []) (record { by = opp (var 0 ⊗ var 2 ⊗ var 6); zero = var 1 ⊗ var 3 ⊗ var 4 ⊖ var 7 ⊗ var 5 } ∷ [])

@@ -9,9 +9,11 @@ use Rattle.ff_whole.specs.Places.{place_of}
 use Rattle.ff_whole.specs.declared.points.Pt.{Pt}
 use Rattle.ff_whole.specs.declared.places.Place.{Place}
 
+-- the place on the segment from p to q
 abbrev pub on_one : Pt → Pt → Pt → Pt → Place
 on_one p q r s = combine (turn r s q) (place_of p) (neg_ℤ (turn r s p)) (place_of q)
 
+-- and the place on the segment from r to s
 abbrev pub on_other : Pt → Pt → Pt → Pt → Place
 on_other p q r s = combine (neg_ℤ (turn p q s)) (place_of r) (turn p q r) (place_of s)
 
@@ -21,6 +23,7 @@ on_one_e p q r s = combine_e (turn_e r s q) (place_of_e p) (opp (turn_e r s p)) 
 abbrev on_other_e : PointE → PointE → PointE → PointE → PlaceE
 on_other_e p q r s = combine_e (opp (turn_e p q s)) (place_of_e r) (turn_e p q r) (place_of_e s)
 
+-- they are the same numbers
 pub same_crossing : (p q r s : Pt) → on_one p q r s ≡ on_other p q r s
 same_crossing p q r s =
     let p' = point_e 0 in let q' = point_e 2 in let r' = point_e 4 in let s' = point_e 6 in

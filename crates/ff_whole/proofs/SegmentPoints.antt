@@ -13,6 +13,7 @@ pub record IsWithin (a b p : Pt) : Type 0 where
   pub on : turn a b p ≡ pos 0
   pub apart : dot (minus a p) (minus b p) <ℤ pos 0
 
+-- one number is negative and the other positive
 abbrev pub AreOpposite : ℤ → ℤ → Type 0
 AreOpposite x y = (x <ℤ pos 0) × (pos 0 <ℤ y) ⊎ (pos 0 <ℤ x) × (y <ℤ pos 0)
 
@@ -40,6 +41,7 @@ pub record IsShared (a b c d : Pt) : Type 0 where
 
 -- ---- the ends, and the segments, change places
 
+-- the ends of the second segment change places
 abbrev pub swap_ends : (a b c d : Pt) → IsShared a b c d → IsShared a b d c
 swap_ends a b c d m = record {
   s = m.s;
@@ -57,6 +59,7 @@ swap_ends a b c d m = record {
   within = elim m.within [ inl y ↦ inl y | inr z ↦ inr (z.1, z.0) ];
 }
 
+-- the segments change places
 abbrev pub swap_segments : (a b c d : Pt) → IsShared a b c d → IsShared c d a b
 swap_segments a b c d m = record {
   s = m.u;
@@ -76,18 +79,21 @@ swap_segments a b c d m = record {
 
 -- ---- different sides
 
+-- over the line the other way the turn has the other sign
 pub turn-back : (a b c : Pt) → turn b a c ≡ neg_ℤ (turn a b c)
 turn-back a b c =
     let a' = point_e 0 in let b' = point_e 2 in let c' = point_e 4 in
     solve (point_env a (point_env b (point_env c []))) (turn_e b' a' c') (opp (turn_e a' b' c')) refl
 
+-- the turns of the ends of one segment differ by as much as those of the other
 pub turn-sums : (a b c d : Pt) → turn c d a -ℤ turn c d b ≡ turn a b d -ℤ turn a b c
 turn-sums a b c d =
     let a' = point_e 0 in let b' = point_e 2 in let c' = point_e 4 in let d' = point_e 6 in
     solve (point_env a (point_env b (point_env c (point_env d [])))) (turn_e c' d' a' ⊖ turn_e c' d' b') (turn_e a' b' d' ⊖ turn_e a' b' c') refl
 
 -- c right of a b, and d left of it
-proper : (a b c d : Pt) → turn a b c <ℤ pos 0 → pos 0 <ℤ turn a b d → pos 0 <ℤ turn c d a → turn c d b <ℤ pos 0 → IsShared a b c d
+proper : (a b c d : Pt) → turn a b c <ℤ pos 0 → pos 0 <ℤ turn a b d → pos 0 <ℤ turn c d a → turn c d b <ℤ pos 0
+    → IsShared a b c d
 proper a b c d h1 h2 h3 h4 =
     let a' = point_e 0 in let b' = point_e 2 in let c' = point_e 4 in let d' = point_e 6 in
     let env = point_env a (point_env b (point_env c (point_env d []))) in
@@ -111,12 +117,14 @@ proper a b c d h1 h2 h3 h4 =
 -- ---- an end strictly within
 
 -- s a + t b is (s + t) p where s (a - p) + t (b - p) is 0
-gathered : (s t a b p q e : ℤ) → s *ℤ (a -ℤ p) +ℤ t *ℤ (b -ℤ p) ≡ e → e ≡ pos 0 → s *ℤ a +ℤ t *ℤ b ≡ (s +ℤ t) *ℤ p +ℤ pos 0 *ℤ q
+gathered : (s t a b p q e : ℤ) → s *ℤ (a -ℤ p) +ℤ t *ℤ (b -ℤ p) ≡ e → e ≡ pos 0
+    → s *ℤ a +ℤ t *ℤ b ≡ (s +ℤ t) *ℤ p +ℤ pos 0 *ℤ q
 gathered s t a b p q e h k =
     let z : s *ℤ (a -ℤ p) +ℤ t *ℤ (b -ℤ p) ≡ pos 0 = h ∙ k in
     solve_from (s ∷ t ∷ a ∷ b ∷ p ∷ q ∷ []) (record { by = num (pos 1); zero = var 0 ⊗ (var 2 ⊖ var 4) ⊕ var 1 ⊗ (var 3 ⊖ var 4) } ∷ [])
     (var 0 ⊗ var 2 ⊕ var 1 ⊗ var 3) ((var 0 ⊕ var 1) ⊗ var 4 ⊕ num (pos 0) ⊗ var 5) refl (z, tt)
 
+-- the turn as it is seen from p
 pub turn-from : (a b p : Pt) → turn a b p ≡ cross (minus a p) (minus b p)
 turn-from a b p =
     let a' = point_e 0 in let b' = point_e 2 in let p' = point_e 4 in
@@ -154,6 +162,7 @@ within_shared a b c d m =
 
 -- ---- segments with crossing signs share a point that isn't an end of both
 
+-- the law, from signs to weights
 pub shared_from_crossing : (a b c d : Pt) → AreCrossing a b c d → IsShared a b c d
 shared_from_crossing a b c d (inl (inl y, inl z)) = let e = turn-sums a b c d in let y0 = y.0 in let y1 = y.1 in let z0 = z.0 in let z1 = z.1 in absurd (omega (arith, linear))
 shared_from_crossing a b c d (inl (inl y, inr z)) = proper a b c d y.0 y.1 z.0 z.1

@@ -13,20 +13,23 @@ use Rattle.ff_whole.specs.declared.points.Pt.{Pt}
 -- ---- a point with both weights positive is strictly within its segment
 
 -- s a + t b = 0, for directions a and b: they are parallel and opposite
-opposed-cross : (s t : ℤ) (a b : Pt) → s *ℤ a.x +ℤ t *ℤ b.x ≡ pos 0 → s *ℤ a.y +ℤ t *ℤ b.y ≡ pos 0 → s *ℤ cross a b ≡ pos 0
+opposed-cross : (s t : ℤ) (a b : Pt) → s *ℤ a.x +ℤ t *ℤ b.x ≡ pos 0 → s *ℤ a.y +ℤ t *ℤ b.y ≡ pos 0
+    → s *ℤ cross a b ≡ pos 0
 opposed-cross s t a b hx hy =
     let a' = point_e 2 in let b' = point_e 4 in
     solve_from (s ∷ t ∷ point_env a (point_env b [])) (record { by = b'.y; zero = var 0 ⊗ a'.x ⊕ var 1 ⊗ b'.x } ∷ record { by = opp b'.x; zero = var 0 ⊗ a'.y ⊕ var 1 ⊗ b'.y } ∷ [])
     (var 0 ⊗ cross_e a' b') (num (pos 0)) refl (hx, (hy, tt))
 
-opposed-dot : (s t : ℤ) (a b : Pt) → s *ℤ a.x +ℤ t *ℤ b.x ≡ pos 0 → s *ℤ a.y +ℤ t *ℤ b.y ≡ pos 0 → s *ℤ dot a b ≡ neg_ℤ (t *ℤ dot b b)
+opposed-dot : (s t : ℤ) (a b : Pt) → s *ℤ a.x +ℤ t *ℤ b.x ≡ pos 0 → s *ℤ a.y +ℤ t *ℤ b.y ≡ pos 0
+    → s *ℤ dot a b ≡ neg_ℤ (t *ℤ dot b b)
 opposed-dot s t a b hx hy =
     let a' = point_e 2 in let b' = point_e 4 in
     solve_from (s ∷ t ∷ point_env a (point_env b [])) (record { by = b'.x; zero = var 0 ⊗ a'.x ⊕ var 1 ⊗ b'.x } ∷ record { by = b'.y; zero = var 0 ⊗ a'.y ⊕ var 1 ⊗ b'.y } ∷ [])
     (var 0 ⊗ dot_e a' b') (opp (var 1 ⊗ dot_e b' b')) refl (hx, (hy, tt))
 
 -- and b isn't 0 where a and b differ
-opposed-long : (s t : ℤ) (a b : Pt) → s *ℤ a.x +ℤ t *ℤ b.x ≡ pos 0 → s *ℤ a.y +ℤ t *ℤ b.y ≡ pos 0 → (s *ℤ s) *ℤ dot (minus b a) (minus b a) ≡ ((s +ℤ t) *ℤ (s +ℤ t)) *ℤ dot b b
+opposed-long : (s t : ℤ) (a b : Pt) → s *ℤ a.x +ℤ t *ℤ b.x ≡ pos 0 → s *ℤ a.y +ℤ t *ℤ b.y ≡ pos 0
+    → (s *ℤ s) *ℤ dot (minus b a) (minus b a) ≡ ((s +ℤ t) *ℤ (s +ℤ t)) *ℤ dot b b
 opposed-long s t a b hx hy =
     let a' = point_e 2 in let b' = point_e 4 in
     let ex = var 0 ⊗ a'.x ⊕ var 1 ⊗ b'.x in
@@ -43,13 +46,16 @@ around s t a b p h =
     solve_from (s ∷ t ∷ a ∷ b ∷ p ∷ []) (record { by = num (pos 1); zero = var 0 ⊗ var 2 ⊕ var 1 ⊗ var 3 ⊖ (var 0 ⊕ var 1) ⊗ var 4 } ∷ [])
     (var 0 ⊗ (var 2 ⊖ var 4) ⊕ var 1 ⊗ (var 3 ⊖ var 4)) (num (pos 0)) refl (z, tt)
 
-same-way : (a b p : Pt) → dot (minus (minus b p) (minus a p)) (minus (minus b p) (minus a p)) ≡ dot (minus b a) (minus b a)
+same-way : (a b p : Pt)
+    → dot (minus (minus b p) (minus a p)) (minus (minus b p) (minus a p)) ≡ dot (minus b a) (minus b a)
 same-way a b p =
     let a' = point_e 0 in let b' = point_e 2 in let p' = point_e 4 in
     let d' = minus_e (minus_e b' p') (minus_e a' p') in
     solve (point_env a (point_env b (point_env p []))) (dot_e d' d') (dot_e (minus_e b' a') (minus_e b' a')) refl
 
-pub within_from_weights : (a b p : Pt) (s t : ℤ) → pos 0 <ℤ s → pos 0 <ℤ t → s *ℤ a.x +ℤ t *ℤ b.x ≡ (s +ℤ t) *ℤ p.x → s *ℤ a.y +ℤ t *ℤ b.y ≡ (s +ℤ t) *ℤ p.y
+-- a point with positive weights of different ends is strictly within
+pub within_from_weights : (a b p : Pt) (s t : ℤ) → pos 0 <ℤ s → pos 0 <ℤ t → s *ℤ a.x +ℤ t *ℤ b.x ≡ (s +ℤ t) *ℤ p.x
+    → s *ℤ a.y +ℤ t *ℤ b.y ≡ (s +ℤ t) *ℤ p.y
     → pos 0 <ℤ dot (minus b a) (minus b a) → IsWithin a b p
 within_from_weights a b p s t ps pt hx hy long =
     let u = minus a p in
@@ -67,7 +73,8 @@ within_from_weights a b p s t ps pt hx hy long =
     record { on = turn-from a b p ∙ zero_from_mul s (cross u v) ps (opposed-cross s t u v ex ey); apart = neg_from_mul s (dot u v) ps (omega (arith, linear)) }
 
 -- a weight of 0: the point is an end of its segment, and within the other
-end_within : (a b c d : Pt) (m : IsShared a b c d) → pos 0 <ℤ dot (minus b a) (minus b a) → m.v ≡ pos 0 → IsWithin a b c
+end_within : (a b c d : Pt) (m : IsShared a b c d) → pos 0 <ℤ dot (minus b a) (minus b a) → m.v ≡ pos 0
+    → IsWithin a b c
 end_within a b c d m long z = elim m.within [
   | inl y ↦ within_from_weights a b c m.s m.t y.0 y.1 (at m.s m.t m.u m.v _ c.x d.x m.sums z m.same_x) (at m.s m.t m.u m.v _ c.y d.y m.sums z m.same_y) long
   | inr y ↦ let v = y.1 in absurd (omega (arith, linear))
@@ -99,7 +106,8 @@ turns-weighed a b c d m =
     (turn_e a' b' c' ⊗ u' ⊕ turn_e a' b' d' ⊗ v') (num (pos 0)) refl (x, (y, (w, tt)))
 
 -- how far along a b the points c and d are, weighed
-alongs-weighed : (a b c d : Pt) (m : IsShared a b c d) → dot (minus b a) (minus c a) *ℤ m.u +ℤ dot (minus b a) (minus d a) *ℤ m.v ≡ dot (minus b a) (minus b a) *ℤ m.t
+alongs-weighed : (a b c d : Pt) (m : IsShared a b c d)
+    → dot (minus b a) (minus c a) *ℤ m.u +ℤ dot (minus b a) (minus d a) *ℤ m.v ≡ dot (minus b a) (minus b a) *ℤ m.t
 alongs-weighed a b c d m =
     let a' = point_e 0 in let b' = point_e 2 in let c' = point_e 4 in let d' = point_e 6 in
     let s' = var 8 in let t' = var 9 in let u' = var 10 in let v' = var 11 in
@@ -169,7 +177,8 @@ turned a b p m =
     record { on = omega (arith, linear); apart = omega (arith, linear) }
 
 -- u c + v d = n t, where s + t = u + v
-less_far : (c d n s t u v : ℤ) → s +ℤ t ≡ u +ℤ v → c *ℤ u +ℤ d *ℤ v ≡ n *ℤ t → pos 0 <ℤ n → pos 0 <ℤ s → pos 0 <ℤ u → pos 0 <ℤ v → n ≤ℤ c → d <ℤ n
+less_far : (c d n s t u v : ℤ) → s +ℤ t ≡ u +ℤ v → c *ℤ u +ℤ d *ℤ v ≡ n *ℤ t → pos 0 <ℤ n → pos 0 <ℤ s → pos 0 <ℤ u
+    → pos 0 <ℤ v → n ≤ℤ c → d <ℤ n
 less_far c d n s t u v w h hn hs hu hv k =
     let w0 : s +ℤ t -ℤ (u +ℤ v) ≡ pos 0 = omega (arith, linear) in
     let h0 : c *ℤ u +ℤ d *ℤ v -ℤ n *ℤ t ≡ pos 0 = omega (arith, linear) in
@@ -181,7 +190,8 @@ less_far c d n s t u v w h hn hs hu hv k =
     let r = pos_from_mul v (n -ℤ d) hv (omega (arith, linear)) in
     omega (arith, linear)
 
-further : (c d n t u v : ℤ) → c *ℤ u +ℤ d *ℤ v ≡ n *ℤ t → pos 0 <ℤ n → pos 0 <ℤ t → pos 0 <ℤ u → pos 0 <ℤ v → c ≤ℤ pos 0 → pos 0 <ℤ d
+further : (c d n t u v : ℤ) → c *ℤ u +ℤ d *ℤ v ≡ n *ℤ t → pos 0 <ℤ n → pos 0 <ℤ t → pos 0 <ℤ u → pos 0 <ℤ v
+    → c ≤ℤ pos 0 → pos 0 <ℤ d
 further c d n t u v h hn ht hu hv k =
     let p = pos-mul n t hn ht in
     let q = nonneg-mul_nonpos u c (omega (arith, linear)) k in
@@ -193,7 +203,8 @@ further c d n t u v h hn ht hu hv k =
 abbrev pub HaveSameEnds : Pt → Pt → Pt → Pt → Type 0
 HaveSameEnds a b c d = ((c ≡ a) × (d ≡ b)) ⊎ ((c ≡ b) × (d ≡ a))
 
-on_one_line : (a b c d : Pt) (m : IsShared a b c d) → pos 0 <ℤ m.s → pos 0 <ℤ m.t → pos 0 <ℤ m.u → pos 0 <ℤ m.v → pos 0 <ℤ dot (minus b a) (minus b a)
+on_one_line : (a b c d : Pt) (m : IsShared a b c d) → pos 0 <ℤ m.s → pos 0 <ℤ m.t → pos 0 <ℤ m.u → pos 0 <ℤ m.v
+    → pos 0 <ℤ dot (minus b a) (minus b a)
     → cross (minus b a) (minus c a) ≡ pos 0 → cross (minus b a) (minus d a) ≡ pos 0 → (HaveSameEnds a b c d → ⊥)
     → IsWithin a b c ⊎ (IsWithin a b d ⊎ (IsWithin c d a ⊎ IsWithin c d b))
 on_one_line a b c d m ps pt pu pv long hc hd differ =
@@ -228,7 +239,8 @@ on_one_line a b c d m ps pt pu pv long hc hd differ =
     (λ d_near. absurd (differ (inl (one_point k a long c a hc ha (omega (arith, linear)), one_point k a long d b hd hb (omega (arith, linear)))))))))
 
 -- all four weights positive
-inner : (a b c d : Pt) (m : IsShared a b c d) → pos 0 <ℤ m.s → pos 0 <ℤ m.t → pos 0 <ℤ m.u → pos 0 <ℤ m.v → pos 0 <ℤ dot (minus b a) (minus b a) → (HaveSameEnds a b c d → ⊥) → AreCrossing a b c d
+inner : (a b c d : Pt) (m : IsShared a b c d) → pos 0 <ℤ m.s → pos 0 <ℤ m.t → pos 0 <ℤ m.u → pos 0 <ℤ m.v
+    → pos 0 <ℤ dot (minus b a) (minus b a) → (HaveSameEnds a b c d → ⊥) → AreCrossing a b c d
 inner a b c d m ps pt pu pv long differ =
     let e = turns-weighed a b c d m in
     let f = turns-weighed c d a b (swap_segments a b c d m) in
@@ -250,7 +262,9 @@ inner a b c d m ps pt pu pv long differ =
 
 -- ---- segments that share a point that isn't an end of both, and that haven't the same ends, have crossing signs
 
-pub crossing_from_shared : (a b c d : Pt) → pos 0 <ℤ dot (minus b a) (minus b a) → pos 0 <ℤ dot (minus d c) (minus d c) → (HaveSameEnds a b c d → ⊥) → IsShared a b c d → AreCrossing a b c d
+-- the law, from weights to signs
+pub crossing_from_shared : (a b c d : Pt) → pos 0 <ℤ dot (minus b a) (minus b a)
+    → pos 0 <ℤ dot (minus d c) (minus d c) → (HaveSameEnds a b c d → ⊥) → IsShared a b c d → AreCrossing a b c d
 crossing_from_shared a b c d ab cd differ m = split m.v m.v_nonneg
     (λ z. inr (inl (end_within a b c d m ab z)))
     (λ pv. split m.u m.u_nonneg

@@ -7,10 +7,13 @@ use Rattle.ff_whole.specs.Places.{height, slant}
 use Rattle.ff_whole.specs.declared.lines.Line.{Line}
 use Rattle.ff_whole.specs.declared.places.Place.{Place}
 
+-- two places are one point
 abbrev pub SamePlace : Place → Place → Type 0
 SamePlace p q = (p.x *ℤ q.w ≡ q.x *ℤ p.w) × (p.y *ℤ q.w ≡ q.y *ℤ p.w)
 
-pub one_place : (k l : Line) (p q : Place) → slant k l ≢ pos 0 → height k p ≡ pos 0 → height l p ≡ pos 0 → height k q ≡ pos 0 → height l q ≡ pos 0 → SamePlace p q
+-- two places on both lines are one point
+pub one_place : (k l : Line) (p q : Place) → slant k l ≢ pos 0 → height k p ≡ pos 0 → height l p ≡ pos 0
+    → height k q ≡ pos 0 → height l q ≡ pos 0 → SamePlace p q
 one_place k l p q d kp lp kq lq = (same (p.x *ℤ q.w) (q.x *ℤ p.w) in_x, same (p.y *ℤ q.w) (q.y *ℤ p.w) in_y)
   where
     k' : LineE

@@ -20,7 +20,8 @@ abbrev pub IsNoEnd : ℕ → ℕ → ℕ → ℕ → Type 0
 IsNoEnd s t u v = (0 < s) × (0 < t) ⊎ (0 < u) × (0 < v)
 
 -- segments with different ends share such a point only where their signs cross
-pub crossing_from_mixed : (a b c d : Pt) (s t u v : ℕ) → (a ≡ b → ⊥) → (c ≡ d → ⊥) → (HaveSameEnds a b c d → ⊥) → IsMixed a b c d s t u v → IsNoEnd s t u v → AreCrossing a b c d
+pub crossing_from_mixed : (a b c d : Pt) (s t u v : ℕ) → (a ≡ b → ⊥) → (c ≡ d → ⊥) → (HaveSameEnds a b c d → ⊥)
+    → IsMixed a b c d s t u v → IsNoEnd s t u v → AreCrossing a b c d
 crossing_from_mixed a b c d s t u v ab cd differ m no_end =
     let some = m.some in
     let sums = m.sums in
@@ -49,7 +50,8 @@ pub record HaveMixed (a b c d : Pt) : Type 0 where
   pub point : IsMixed a b c d s t u v
   pub no_end : IsNoEnd s t u v
 
-in_whole : (a b c d : Pt) (s t u v : ℤ) → pos 0 ≤ℤ s → pos 0 ≤ℤ t → pos 0 ≤ℤ u → pos 0 ≤ℤ v → pos 0 <ℤ (s +ℤ t) → s +ℤ t ≡ u +ℤ v
+in_whole : (a b c d : Pt) (s t u v : ℤ) → pos 0 ≤ℤ s → pos 0 ≤ℤ t → pos 0 ≤ℤ u → pos 0 ≤ℤ v → pos 0 <ℤ (s +ℤ t)
+    → s +ℤ t ≡ u +ℤ v
     → s *ℤ a.x +ℤ t *ℤ b.x ≡ u *ℤ c.x +ℤ v *ℤ d.x → s *ℤ a.y +ℤ t *ℤ b.y ≡ u *ℤ c.y +ℤ v *ℤ d.y
     → (pos 0 <ℤ s) × (pos 0 <ℤ t) ⊎ (pos 0 <ℤ u) × (pos 0 <ℤ v) → HaveMixed a b c d
 in_whole a b c d (pos s) (pos t) (pos u) (pos v) hs ht hu hv some sums x y within = record {
@@ -72,7 +74,8 @@ mixed_from_crossing a b c d h =
     in_whole a b c d m.s m.t m.u m.v m.s_nonneg m.t_nonneg m.u_nonneg m.v_nonneg m.some m.sums m.same_x m.same_y m.within
 
 -- of two ways from p in one direction, one end is within the other way
-pub one_direction : (p q r : Pt) → (q ≡ r → ⊥) → cross (minus q p) (minus r p) ≡ pos 0 → pos 0 <ℤ dot (minus q p) (minus r p) → IsWithin p q r ⊎ IsWithin p r q
+pub one_direction : (p q r : Pt) → (q ≡ r → ⊥) → cross (minus q p) (minus r p) ≡ pos 0
+    → pos 0 <ℤ dot (minus q p) (minus r p) → IsWithin p q r ⊎ IsWithin p r q
 one_direction p q r differ par ahead =
     let k = minus q p in
     let long = long_from_ahead k (minus r p) ahead in

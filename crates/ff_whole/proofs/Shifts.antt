@@ -26,7 +26,8 @@ pub record IsDecided (p d : Place) (n : ℕ) (l : Line) : Type 0 where
   pub keeps_right : height l p <ℤ pos 0 → height l (moved n p d) <ℤ pos 0
   pub decides : height l p ≡ pos 0 → height l (moved n p d) ≡ height l d
 
-keep_left : (l : Line) (p d : Place) (n : ℕ) → nat_abs (height l d) < n → pos 0 <ℤ height l p → pos 0 <ℤ height l (moved n p d)
+keep_left : (l : Line) (p d : Place) (n : ℕ) → nat_abs (height l d) < n → pos 0 <ℤ height l p
+    → pos 0 <ℤ height l (moved n p d)
 keep_left l p d n k h =
     let e = height-moved l p d n in
     let m = le-mul_left (pos n) (pos 1) (height l p) (omega (arith, ints)) (omega (arith, linear)) in
@@ -34,7 +35,8 @@ keep_left l p d n k h =
     let b = abs_is (height l d) in
     omega (arith, linear)
 
-keep_right : (l : Line) (p d : Place) (n : ℕ) → nat_abs (height l d) < n → height l p <ℤ pos 0 → height l (moved n p d) <ℤ pos 0
+keep_right : (l : Line) (p d : Place) (n : ℕ) → nat_abs (height l d) < n → height l p <ℤ pos 0
+    → height l (moved n p d) <ℤ pos 0
 keep_right l p d n k h =
     let e = height-moved l p d n in
     let m = le-mul_left (pos n) (height l p) (negsuc 0) (omega (arith, ints)) (omega (arith, linear)) in
@@ -58,17 +60,6 @@ shift (l ∷ ls) p d =
     let rest = shift ls p d in
     (suc (nat_abs (height l d)) + rest.0, λ n k. All-cons (IsDecided p d n) l ls (decided l p d n (omega arith)) (rest.1 n (omega arith)))
 
-both : (p d : Place) (n : ℕ) (ls : List Line) → All (λ l. pos 0 <ℤ height l p) ls → All (IsDecided p d n) ls → All (λ l. pos 0 <ℤ height l (moved n p d)) ls
-both p d n [] h k = All-nil _
-both p d n (l ∷ ls) h k =
-    let one = All-head (IsDecided p d n) l ls k in
-    All-cons (λ l. pos 0 <ℤ height l (moved n p d)) l ls (one.keeps_left (All-head (λ l. pos 0 <ℤ height l p) l ls h))
-    (both p d n ls (All-tail (λ l. pos 0 <ℤ height l p) l ls h) (All-tail (IsDecided p d n) l ls k))
-
--- so what is left of all of them stays so
-pub stays_left : (ls : List Line) (p d : Place) → All (λ l. pos 0 <ℤ height l p) ls → (m : ℕ) × ((n : ℕ) → m ≤ n → All (λ l. pos 0 <ℤ height l (moved n p d)) ls)
-stays_left ls p d h = let r = shift ls p d in (r.0, λ n k. both p d n ls h (r.1 n k))
-
 -- ---- off lines
 
 off_number : (u v : ℤ) (n : ℕ) → nat_abs v < n → pos n *ℤ u +ℤ pos 1 *ℤ v ≡ pos 0 → (u ≡ pos 0) × (v ≡ pos 0)
@@ -83,13 +74,17 @@ off_number u v n h e =
     let k : pos n *ℤ pos 1 ≡ pos n = omega (arith, ints) in absurd (omega (arith, linear)))
 
 -- on a segment whose ends aren't both on the line, few places are on it
-off_one : (l : Line) (s t : Place) → (height l s ≢ pos 0) ⊎ (height l t ≢ pos 0) → (n : ℕ) → nat_abs (height l t) < n → height l (moved n s t) ≢ pos 0
+off_one : (l : Line) (s t : Place) → (height l s ≢ pos 0) ⊎ (height l t ≢ pos 0) → (n : ℕ)
+    → nat_abs (height l t) < n → height l (moved n s t) ≢ pos 0
 off_one l s t h n k z = let r = off_number (height l s) (height l t) n k (sym (height-combine l (pos n) s (pos 1) t) ∙ z) in elim h [ inl f ↦ f r.0 | inr f ↦ f r.1 ]
 
+-- the segment from s to t is not on the line
 abbrev pub NotAlong : Place → Place → Line → Type 0
 NotAlong s t l = (height l s ≢ pos 0) ⊎ (height l t ≢ pos 0)
 
-pub off_lines : (ls : List Line) (s t : Place) → All (NotAlong s t) ls → (m : ℕ) × ((n : ℕ) → m ≤ n → All (λ l. height l (moved n s t) ≢ pos 0) ls)
+-- all but few of its places are off all the lines along none of which it is
+pub off_lines : (ls : List Line) (s t : Place) → All (NotAlong s t) ls
+    → (m : ℕ) × ((n : ℕ) → m ≤ n → All (λ l. height l (moved n s t) ≢ pos 0) ls)
 off_lines [] s t h = (0, λ n k. All-nil _)
 off_lines (l ∷ ls) s t h =
     let rest = off_lines ls s t (All-tail (NotAlong s t) l ls h) in

@@ -32,7 +32,8 @@ height-same : (p : Pt) (m : Place) → height (through p p) m ≡ pos 0
 height-same p m = let p' = point_e 0 in let m' = place_e 2 in solve (point_env p (place_env m [])) (height_e (through_e p' p') m') (num (pos 0)) refl
 
 -- the same, as the law of fans has it
-pub inside_fan : (n : ℕ) (v : ℕ → Pt) (m : Place) → pos 0 <ℤ m.w → 0 < n → IsInsideRing n v m → (k : ℕ) × (n ≡ suc (suc k)) × IsInside v k m
+pub inside_fan : (n : ℕ) (v : ℕ → Pt) (m : Place) → pos 0 <ℤ m.w → 0 < n → IsInsideRing n v m
+    → (k : ℕ) × (n ≡ suc (suc k)) × IsInside v k m
 inside_fan zero v m w some h = absurd (omega arith)
 inside_fan (suc zero) v m w some h = let a = h 0 (omega arith) in let z = height-same (v 0) m in absurd (omega (arith, linear))
 inside_fan (suc (suc k)) v m w some h = (
@@ -67,20 +68,24 @@ on_leftwards : (m : Place) → height (leftwards m) m ≡ pos 0
 on_leftwards m = let m' = place_e 0 in solve (place_env m []) (height_e (record { a = opp m'.w; b = num (pos 0); c = opp m'.x }) m') (num (pos 0)) refl
 
 -- a place inside a ring is left of each line that all vertices are left of
-pub left-closed : (n : ℕ) (v : ℕ → Pt) (m : Place) → pos 0 <ℤ m.w → 0 < n → IsInsideRing n v m → (l : Line) → ((i : ℕ) → i < n → pos 0 <ℤ height l (place_of (v i))) → pos 0 <ℤ height l m
+pub left-closed : (n : ℕ) (v : ℕ → Pt) (m : Place) → pos 0 <ℤ m.w → 0 < n → IsInsideRing n v m → (l : Line)
+    → ((i : ℕ) → i < n → pos 0 <ℤ height l (place_of (v i))) → pos 0 <ℤ height l m
 left-closed n v m w some h l all =
     let r = inside_fan n v m w some h in
     let e = r.1 in
     left-ring v r.0 m r.2 l (λ i k. all i (omega arith))
 
 -- not all vertices are right of a place inside, and not all are left of it
-pub some_left : (n : ℕ) (v : ℕ → Pt) (m : Place) → pos 0 <ℤ m.w → 0 < n → IsInsideRing n v m → (i : ℕ) × (i < n) × (pos 0 ≤ℤ after (v i) m)
+pub some_left : (n : ℕ) (v : ℕ → Pt) (m : Place) → pos 0 <ℤ m.w → 0 < n → IsInsideRing n v m
+    → (i : ℕ) × (i < n) × (pos 0 ≤ℤ after (v i) m)
 some_left n v m w some h = elim (search n (λ i. pos 0 ≤ℤ after (v i) m) (λ i. after (v i) m <ℤ pos 0) (λ i l. by_lt_z (after (v i) m) (pos 0) inr inl)) [
   | inl r ↦ r
   | inr all ↦ let z = on_rightwards m in let p = left-closed n v m w some h (rightwards m) (λ i l. let a = all i l in let e = over_rightwards (v i) m in omega (arith, linear)) in absurd (omega (arith, linear))
 ]
 
-pub some_right : (n : ℕ) (v : ℕ → Pt) (m : Place) → pos 0 <ℤ m.w → 0 < n → IsInsideRing n v m → (i : ℕ) × (i < n) × (after (v i) m ≤ℤ pos 0)
+-- nor are all vertices left of it
+pub some_right : (n : ℕ) (v : ℕ → Pt) (m : Place) → pos 0 <ℤ m.w → 0 < n → IsInsideRing n v m
+    → (i : ℕ) × (i < n) × (after (v i) m ≤ℤ pos 0)
 some_right n v m w some h = elim (search n (λ i. after (v i) m ≤ℤ pos 0) (λ i. pos 0 <ℤ after (v i) m) (λ i l. by_lt_z (pos 0) (after (v i) m) inr inl)) [
   | inl r ↦ r
   | inr all ↦ let z = on_leftwards m in let p = left-closed n v m w some h (leftwards m) (λ i l. let a = all i l in let e = over_leftwards (v i) m in omega (arith, linear)) in absurd (omega (arith, linear))
@@ -88,7 +93,9 @@ some_right n v m w some h = elim (search n (λ i. after (v i) m ≤ℤ pos 0) (�
 
 -- ---- going round from a number above 0 to one that isn't, some step goes down
 
-pub goes_down : (n : ℕ) (f : ℕ → ℤ) (s r : ℕ) → s < n → r < n → pos 0 <ℤ f s → f r ≤ℤ pos 0 → (i : ℕ) × (i < n) × (pos 0 <ℤ f i) × (f (next n i) ≤ℤ pos 0)
+-- going round from a number above 0 to one that is not, some step goes from above 0 to not above 0
+pub goes_down : (n : ℕ) (f : ℕ → ℤ) (s r : ℕ) → s < n → r < n → pos 0 <ℤ f s → f r ≤ℤ pos 0
+    → (i : ℕ) × (i < n) × (pos 0 <ℤ f i) × (f (next n i) ≤ℤ pos 0)
 goes_down n f s r hs hr above low =
     let k = walk-to n s r hs hr in
     let t = sign_turns (λ i. f (walk n s i)) k.0 above (subst (λ i. f i ≤ℤ pos 0) (sym k.2) low) in
@@ -105,7 +112,9 @@ pub record HasBothWays (n : ℕ) (v : ℕ → Pt) (m : Place) : Type 0 where
   pub left_from : after (v left) m <ℤ pos 0
   pub left_to : pos 0 <ℤ after (v (next n left)) m
 
-pub both_ways : (n : ℕ) (v : ℕ → Pt) (m : Place) → pos 0 <ℤ m.w → 0 < n → IsInsideRing n v m → ((i : ℕ) → i < n → after (v i) m ≢ pos 0) → HasBothWays n v m
+-- a place inside, with no vertex above or below it, has such edges
+pub both_ways : (n : ℕ) (v : ℕ → Pt) (m : Place) → pos 0 <ℤ m.w → 0 < n → IsInsideRing n v m
+    → ((i : ℕ) → i < n → after (v i) m ≢ pos 0) → HasBothWays n v m
 both_ways n v m w some h off =
     let s = some_left n v m w some h in
     let r = some_right n v m w some h in

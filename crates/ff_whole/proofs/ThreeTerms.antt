@@ -9,12 +9,15 @@ use Rattle.ff_whole.specs.declared.points.Pt.{Pt}
 
 -- ---- two directions
 
+-- the cross product changes its sign where its directions change places
 pub cross-flip : (a b : Pt) → cross b a ≡ neg_ℤ (cross a b)
 cross-flip a b = let a' = point_e 0 in let b' = point_e 2 in solve (point_env a (point_env b [])) (cross_e b' a') (opp (cross_e a' b')) refl
 
+-- the dot product does not
 pub dot-flip : (a b : Pt) → dot b a ≡ dot a b
 dot-flip a b = let a' = point_e 0 in let b' = point_e 2 in solve (point_env a (point_env b [])) (dot_e b' a') (dot_e a' b') refl
 
+-- a direction is not left of itself
 pub cross-own : (a : Pt) → cross a a ≡ pos 0
 cross-own a = let a' = point_e 0 in solve (point_env a []) (cross_e a' a') (num (pos 0)) refl
 
@@ -27,6 +30,7 @@ pub cross-step : (u p q r : Pt) → cross u (minus q r) ≡ cross u (minus p r) 
 cross-step u p q r = let u' = point_e 0 in let p' = point_e 2 in let q' = point_e 4 in let r' = point_e 6 in
     solve (point_env u (point_env p (point_env q (point_env r [])))) (cross_e u' (minus_e q' r')) (cross_e u' (minus_e p' r') ⊕ cross_e u' (minus_e q' p')) refl
 
+-- the same along u
 pub dot-step : (u p q r : Pt) → dot u (minus q r) ≡ dot u (minus p r) +ℤ dot u (minus q p)
 dot-step u p q r = let u' = point_e 0 in let p' = point_e 2 in let q' = point_e 4 in let r' = point_e 6 in
     solve (point_env u (point_env p (point_env q (point_env r [])))) (dot_e u' (minus_e q' r')) (dot_e u' (minus_e p' r') ⊕ dot_e u' (minus_e q' p')) refl
@@ -36,6 +40,7 @@ pub along_x : (u b : Pt) → dot u u *ℤ b.x ≡ dot u b *ℤ u.x -ℤ cross u 
 along_x u b = let u' = point_e 0 in let b' = point_e 2 in
     solve (point_env u (point_env b [])) (dot_e u' u' ⊗ b'.x) (dot_e u' b' ⊗ u'.x ⊖ cross_e u' b' ⊗ u'.y) refl
 
+-- the same in y
 pub along_y : (u b : Pt) → dot u u *ℤ b.y ≡ dot u b *ℤ u.y +ℤ cross u b *ℤ u.x
 along_y u b = let u' = point_e 0 in let b' = point_e 2 in
     solve (point_env u (point_env b [])) (dot_e u' u' ⊗ b'.y) (dot_e u' b' ⊗ u'.y ⊕ cross_e u' b' ⊗ u'.x) refl
@@ -47,6 +52,7 @@ pub lagrange-dot : (u a b : Pt) → dot u u *ℤ dot a b ≡ dot u a *ℤ dot u 
 lagrange-dot u a b = let u' = point_e 0 in let a' = point_e 2 in let b' = point_e 4 in
     solve (point_env u (point_env a (point_env b []))) (dot_e u' u' ⊗ dot_e a' b') (dot_e u' a' ⊗ dot_e u' b' ⊕ cross_e u' a' ⊗ cross_e u' b') refl
 
+-- and for the cross product
 pub lagrange-cross : (u a b : Pt) → dot u u *ℤ cross a b ≡ dot u a *ℤ cross u b -ℤ cross u a *ℤ dot u b
 lagrange-cross u a b = let u' = point_e 0 in let a' = point_e 2 in let b' = point_e 4 in
     solve (point_env u (point_env a (point_env b []))) (dot_e u' u' ⊗ cross_e a' b') (dot_e u' a' ⊗ cross_e u' b' ⊖ cross_e u' a' ⊗ dot_e u' b') refl
@@ -56,12 +62,14 @@ pub three_x : (a b c : Pt) → cross b c *ℤ a.x +ℤ cross c a *ℤ b.x +ℤ c
 three_x a b c = let a' = point_e 0 in let b' = point_e 2 in let c' = point_e 4 in
     solve (point_env a (point_env b (point_env c []))) (cross_e b' c' ⊗ a'.x ⊕ cross_e c' a' ⊗ b'.x ⊕ cross_e a' b' ⊗ c'.x) (num (pos 0)) refl
 
+-- the same in y
 pub three_y : (a b c : Pt) → cross b c *ℤ a.y +ℤ cross c a *ℤ b.y +ℤ cross a b *ℤ c.y ≡ pos 0
 three_y a b c = let a' = point_e 0 in let b' = point_e 2 in let c' = point_e 4 in
     solve (point_env a (point_env b (point_env c []))) (cross_e b' c' ⊗ a'.y ⊕ cross_e c' a' ⊗ b'.y ⊕ cross_e a' b' ⊗ c'.y) (num (pos 0)) refl
 
 -- ---- four directions: Plücker
 
+-- the cross products of four directions, in pairs
 pub plucker : (u a b c : Pt) → cross u b *ℤ cross c a ≡ cross u c *ℤ cross b a +ℤ cross u a *ℤ cross c b
 plucker u a b c = let u' = point_e 0 in let a' = point_e 2 in let b' = point_e 4 in let c' = point_e 6 in
     solve (point_env u (point_env a (point_env b (point_env c [])))) (cross_e u' b' ⊗ cross_e c' a') (cross_e u' c' ⊗ cross_e b' a' ⊕ cross_e u' a' ⊗ cross_e c' b') refl

@@ -14,22 +14,27 @@ use Rattle.ff_whole.specs.declared.places.Place.{Place}
 abbrev pub corners_x : Pt → Pt → Pt → Place → ℤ
 corners_x p q r m = height (through q r) m *ℤ p.x +ℤ height (through r p) m *ℤ q.x +ℤ height (through p q) m *ℤ r.x
 
+-- the same in y
 abbrev pub corners_y : Pt → Pt → Pt → Place → ℤ
 corners_y p q r m = height (through q r) m *ℤ p.y +ℤ height (through r p) m *ℤ q.y +ℤ height (through p q) m *ℤ r.y
 
+-- it is the place in x
 pub barycentric_x : (p q r : Pt) (m : Place) → turn p q r *ℤ m.x ≡ corners_x p q r m
 barycentric_x p q r m =
     let p' = point_e 0 in let q' = point_e 2 in let r' = point_e 4 in let m' = place_e 6 in
     solve (point_env p (point_env q (point_env r (place_env m [])))) (turn_e p' q' r' ⊗ m'.x)
     (height_e (through_e q' r') m' ⊗ p'.x ⊕ height_e (through_e r' p') m' ⊗ q'.x ⊕ height_e (through_e p' q') m' ⊗ r'.x) refl
 
+-- and in y
 pub barycentric_y : (p q r : Pt) (m : Place) → turn p q r *ℤ m.y ≡ corners_y p q r m
 barycentric_y p q r m =
     let p' = point_e 0 in let q' = point_e 2 in let r' = point_e 4 in let m' = place_e 6 in
     solve (point_env p (point_env q (point_env r (place_env m [])))) (turn_e p' q' r' ⊗ m'.y)
     (height_e (through_e q' r') m' ⊗ p'.y ⊕ height_e (through_e r' p') m' ⊗ q'.y ⊕ height_e (through_e p' q') m' ⊗ r'.y) refl
 
-pub barycentric_w : (p q r : Pt) (m : Place) → turn p q r *ℤ m.w ≡ height (through q r) m +ℤ height (through r p) m +ℤ height (through p q) m
+-- the heights over the sides add up to the turn
+pub barycentric_w : (p q r : Pt) (m : Place)
+    → turn p q r *ℤ m.w ≡ height (through q r) m +ℤ height (through r p) m +ℤ height (through p q) m
 barycentric_w p q r m =
     let p' = point_e 0 in let q' = point_e 2 in let r' = point_e 4 in let m' = place_e 6 in
     solve (point_env p (point_env q (point_env r (place_env m [])))) (turn_e p' q' r' ⊗ m'.w)
@@ -72,7 +77,8 @@ left-triangle l p q r m t a b c f g h =
 -- ---- a row of signs
 
 -- from above 0 to not above 0 there is a last one above 0 before one that is not
-pub sign_turns : (f : ℕ → ℤ) (n : ℕ) → pos 0 <ℤ f 0 → f n ≤ℤ pos 0 → (i : ℕ) × (i < n) × (pos 0 <ℤ f i) × (f (suc i) ≤ℤ pos 0)
+pub sign_turns : (f : ℕ → ℤ) (n : ℕ) → pos 0 <ℤ f 0 → f n ≤ℤ pos 0
+    → (i : ℕ) × (i < n) × (pos 0 <ℤ f i) × (f (suc i) ≤ℤ pos 0)
 sign_turns f zero h k = absurd (omega (arith, linear))
 sign_turns f (suc n) h k = by_lt_z (pos 0) (f n)
     (λ more. (n, omega arith, more, k))

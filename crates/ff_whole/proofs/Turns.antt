@@ -20,23 +20,27 @@ turn-rotate p q r =
     let p' = point_e 0 in let q' = point_e 2 in let r' = point_e 4 in
     solve (point_env p (point_env q (point_env r []))) (turn_e q' r' p') (turn_e p' q' r') refl
 
+-- two points change places: the turn changes its sign
 pub turn-swap : (p q r : Pt) → turn q p r ≡ neg_ℤ (turn p q r)
 turn-swap p q r =
     let p' = point_e 0 in let q' = point_e 2 in let r' = point_e 4 in
     solve (point_env p (point_env q (point_env r []))) (turn_e q' p' r') (opp (turn_e p' q' r')) refl
 
+-- the turn of a triangle is that of the three triangles with a fourth point
 pub turn-split : (p q r s : Pt) → turn p q r ≡ turn p q s +ℤ turn q r s +ℤ turn r p s
 turn-split p q r s =
     let p' = point_e 0 in let q' = point_e 2 in let r' = point_e 4 in let s' = point_e 6 in
     solve (point_env p (point_env q (point_env r (point_env s [])))) (turn_e p' q' r') (turn_e p' q' s' ⊕ turn_e q' r' s' ⊕ turn_e r' p' s') refl
 
 -- Grassmann and Plücker
-pub turn-exchange : (p q r s t : Pt) → turn p q r *ℤ turn p s t -ℤ turn p q s *ℤ turn p r t +ℤ turn p q t *ℤ turn p r s ≡ pos 0
+pub turn-exchange : (p q r s t : Pt)
+    → turn p q r *ℤ turn p s t -ℤ turn p q s *ℤ turn p r t +ℤ turn p q t *ℤ turn p r s ≡ pos 0
 turn-exchange p q r s t =
     let p' = point_e 0 in let q' = point_e 2 in let r' = point_e 4 in let s' = point_e 6 in let t' = point_e 8 in
     solve (point_env p (point_env q (point_env r (point_env s (point_env t [])))))
     (turn_e p' q' r' ⊗ turn_e p' s' t' ⊖ turn_e p' q' s' ⊗ turn_e p' r' t' ⊕ turn_e p' q' t' ⊗ turn_e p' r' s') (num (pos 0)) refl
 
+-- over the line the other way the height has the other sign
 pub height-back : (p q : Pt) (m : Place) → height (through q p) m ≡ neg_ℤ (height (through p q) m)
 height-back p q m =
     let p' = point_e 0 in let q' = point_e 2 in let m' = place_e 4 in
