@@ -35,7 +35,8 @@ cross-way p q r u =
     solve (point_env p (point_env q (point_env r (point_env u [])))) (cross_e (minus_e q' r') u') (cross_e (minus_e p' r') u' ⊕ cross_e (minus_e q' p') u') refl
 
 cross-stay : (p u : Pt) → cross (minus p p) u ≡ pos 0
-cross-stay p u = let p' = point_e 0 in let u' = point_e 2 in solve (point_env p (point_env u [])) (cross_e (minus_e p' p') u') (num (pos 0)) refl
+cross-stay p u = let p' = point_e 0 in let u' = point_e 2 in
+    solve (point_env p (point_env u [])) (cross_e (minus_e p' p') u') (num (pos 0)) refl
 
 open_heights : (n : ℕ) (v : ℕ → Pt) (m : Place)
     → heights n v m ≡ m.w *ℤ area n v +ℤ cross (minus (v n) (v 0)) (flat m)
@@ -80,10 +81,13 @@ pub wide_from_area : (n : ℕ) (v : ℕ → Pt) → v n ≡ v 0 → pos 0 <ℤ a
     → ((k : ℕ) → (i : ℕ) × (i < n) × (v k ≡ v i))
     → (k : ℕ) → pos 0 <ℤ dot (minus (v (suc k)) (v k)) (minus (v (suc k)) (v k)) → ((i : ℕ) → i < n → pos 0 ≤ℤ turn (v k) (v (suc k)) (v i))
     → (i : ℕ) × (i < n) × (pos 0 <ℤ turn (v k) (v (suc k)) (v i))
-wide_from_area n v e a period k long left = elim (search n (λ i. pos 0 <ℤ turn (v k) (v (suc k)) (v i)) (λ i. turn (v k) (v (suc k)) (v i) ≡ pos 0) decide) [
-  | inl r ↦ r
-  | inr all ↦ let z = area_flat n v (minus (v (suc k)) (v k)) (v k) e long (λ j. let r = period j in subst (λ p. turn (v k) (v (suc k)) p ≡ pos 0) (sym r.2) (all r.0 r.1)) in absurd (omega (arith, linear))
-]
+wide_from_area n v e a period k long left =
+    elim (search n (λ i. pos 0 <ℤ turn (v k) (v (suc k)) (v i)) (λ i. turn (v k) (v (suc k)) (v i) ≡ pos 0) decide) [
+      | inl r ↦ r
+      | inr all ↦ let z = area_flat n v (minus (v (suc k)) (v k)) (v k) e long (λ j. let r = period j in subst (λ p. turn (v k) (v (suc k)) p ≡ pos 0) (sym r.2) (all r.0 r.1)) in
+          absurd (omega (arith, linear))
+    ]
   where
     decide : (i : ℕ) → i < n → (pos 0 <ℤ turn (v k) (v (suc k)) (v i)) ⊎ (turn (v k) (v (suc k)) (v i) ≡ pos 0)
-    decide i l = let h = left i l in by_sign (turn (v k) (v (suc k)) (v i)) (λ m. absurd (omega (arith, linear))) (λ z. inr z) (λ m. inl m)
+    decide i l = let h = left i l in
+        by_sign (turn (v k) (v (suc k)) (v i)) (λ m. absurd (omega (arith, linear))) (λ z. inr z) (λ m. inl m)

@@ -40,7 +40,8 @@ module _ (b c e g u v k f : ℤ) (hb : pos 0 <ℤ b) (hc : pos 0 <ℤ c) (he : p
       let l0 : b *ℤ f -ℤ (u +ℤ e *ℤ k) ≡ pos 0 = omega (arith, linear) in
       let u0 : c *ℤ f -ℤ (v -ℤ g *ℤ k) ≡ pos 0 = omega (arith, linear) in
       solve_from (b ∷ c ∷ e ∷ g ∷ u ∷ v ∷ k ∷ f ∷ [])
-      (record { by = var 3; zero = var 0 ⊗ var 7 ⊖ (var 4 ⊕ var 2 ⊗ var 6) } ∷ record { by = var 2; zero = var 1 ⊗ var 7 ⊖ (var 5 ⊖ var 3 ⊗ var 6) } ∷ [])
+      (record { by = var 3; zero = var 0 ⊗ var 7 ⊖ (var 4 ⊕ var 2 ⊗ var 6) }
+      ∷ record { by = var 2; zero = var 1 ⊗ var 7 ⊖ (var 5 ⊖ var 3 ⊗ var 6) } ∷ [])
       ((var 3 ⊗ var 0 ⊕ var 2 ⊗ var 1) ⊗ var 7) (var 3 ⊗ var 4 ⊕ var 2 ⊗ var 5) refl (l0, (u0, tt))
 
   not_below : pos 0 ≤ℤ f
@@ -103,10 +104,12 @@ module _ (l : Line) (p q s r : Pt) (m : Place) (t : IsBetweenEdges p q s r m) (h
   high = after r m *ℤ height l (place_of s) -ℤ after s m *ℤ height l (place_of r)
 
   low_nonneg : pos 0 ≤ℤ low
-  low_nonneg = ends (after p m) (after q m) (height l (place_of p)) (height l (place_of q)) t.after_p t.before_q h.at_p h.at_q
+  low_nonneg =
+      ends (after p m) (after q m) (height l (place_of p)) (height l (place_of q)) t.after_p t.before_q h.at_p h.at_q
 
   high_nonneg : pos 0 ≤ℤ high
-  high_nonneg = ends (after r m) (after s m) (height l (place_of r)) (height l (place_of s)) t.after_r t.before_s h.at_r h.at_s
+  high_nonneg =
+      ends (after r m) (after s m) (height l (place_of r)) (height l (place_of s)) t.after_r t.before_s h.at_r h.at_s
 
   wide_low : pos 0 <ℤ (q.x -ℤ p.x)
   wide_low = let e = t.rightwards in omega (arith, linear)
@@ -143,7 +146,8 @@ module _ (l : Line) (p q s r : Pt) (m : Place) (t : IsBetweenEdges p q s r m) (h
           let p0 : height l (place_of p) ≡ pos 0 = elim (zero_product (after q m) (height l (place_of p)) product) [ inl z ↦ absurd (omega (arith, linear)) | inr z ↦ z ] in
           let a0 : after p m *ℤ l.a ≡ pos 0 =
           solve_from (line_env l (point_env p (place_env m [])))
-          (record { by = num (pos 1); zero = height_e (line_e 0) (place_e 5) } ∷ record { by = opp (var 7); zero = height_e (line_e 0) (place_of_e (point_e 3)) }
+          (record { by = num (pos 1); zero = height_e (line_e 0) (place_e 5) }
+          ∷ record { by = opp (var 7); zero = height_e (line_e 0) (place_of_e (point_e 3)) }
           ∷ record { by = opp (var 6 ⊖ var 4 ⊗ var 7); zero = var 1 } ∷ [])
           ((var 5 ⊖ var 3 ⊗ var 7) ⊗ var 0) (num (pos 0)) refl (zero, (p0, (steep, tt))) in
           elim direction [ inl n ↦ n (zero_from_mul (after p m) l.a right a0) | inr n ↦ n steep ]

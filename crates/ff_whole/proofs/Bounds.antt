@@ -38,11 +38,13 @@ below-sub h k = below-add h (below-neg k)
 mul-lt : (a b m n : ℕ) → a < m → b < n → a * b < m * n
 mul-lt a b zero n h k = absurd (omega arith)
 mul-lt a b (suc m) zero h k = absurd (omega arith)
-mul-lt a b (suc m) (suc n) h k = let f : a ≤ m = omega arith in let g : b ≤ n = omega arith in let l = mul-le-mul f g in omega arith
+mul-lt a b (suc m) (suc n) h k = let f : a ≤ m = omega arith in let g : b ≤ n = omega arith in
+    let l = mul-le-mul f g in omega arith
 
 -- the size of a product is below the product of the bounds
 pub below-mul : {m n : ℕ} {a b : ℤ} → IsBelow m a → IsBelow n b → IsBelow (m * n) (a *ℤ b)
-below-mul {m} {n} {a} {b} h k = record { below = rw (unsigned_abs-mul a b) (mul-lt (unsigned_abs a) (unsigned_abs b) m n h.below k.below) }
+below-mul {m} {n} {a} {b} h k =
+    record { below = rw (unsigned_abs-mul a b) (mul-lt (unsigned_abs a) (unsigned_abs b) m n h.below k.below) }
 
 -- at numerals the last argument is `tt`, here and below
 pub below-more : {m n : ℕ} {a : ℤ} → IsBelow m a → T (leb m n) → IsBelow n a
@@ -75,15 +77,18 @@ trip w e t = record { is = ap (λ (y : ℤ). to_z w (of_z w y)) e.is ∙ back w 
 
 -- a `+` of the code
 pub sum : {m n : ℕ} {x y a b : ℤ} → Exactly m x a → Exactly n y b → Exactly (m + n) (x +ℤ y) (a +ℤ b)
-sum {y = y} {a = a} e f = record { is = ap (λ (z : ℤ). z +ℤ y) e.is ∙ ap (λ (z : ℤ). a +ℤ z) f.is; size = below-add e.size f.size }
+sum {y = y} {a = a} e f =
+    record { is = ap (λ (z : ℤ). z +ℤ y) e.is ∙ ap (λ (z : ℤ). a +ℤ z) f.is; size = below-add e.size f.size }
 
 -- a `-` of the code
 pub difference : {m n : ℕ} {x y a b : ℤ} → Exactly m x a → Exactly n y b → Exactly (m + n) (x -ℤ y) (a -ℤ b)
-difference {y = y} {a = a} e f = record { is = ap (λ (z : ℤ). z -ℤ y) e.is ∙ ap (λ (z : ℤ). a -ℤ z) f.is; size = below-sub e.size f.size }
+difference {y = y} {a = a} e f =
+    record { is = ap (λ (z : ℤ). z -ℤ y) e.is ∙ ap (λ (z : ℤ). a -ℤ z) f.is; size = below-sub e.size f.size }
 
 -- a `*` of the code
 pub multiple : {m n : ℕ} {x y a b : ℤ} → Exactly m x a → Exactly n y b → Exactly (m * n) (x *ℤ y) (a *ℤ b)
-multiple {y = y} {a = a} e f = record { is = ap (λ (z : ℤ). z *ℤ y) e.is ∙ ap (λ (z : ℤ). a *ℤ z) f.is; size = below-mul e.size f.size }
+multiple {y = y} {a = a} e f =
+    record { is = ap (λ (z : ℤ). z *ℤ y) e.is ∙ ap (λ (z : ℤ). a *ℤ z) f.is; size = below-mul e.size f.size }
 
 -- the opposite of both
 pub opposite : {m : ℕ} {x a : ℤ} → Exactly m x a → Exactly m (neg_ℤ x) (neg_ℤ a)

@@ -37,12 +37,14 @@ left-combine l a p b q f g h k =
 -- places right of no line add up to such a place, with weights that are not negative
 pub not_right-combine : (l : Line) (a : ℤ) (p : Place) (b : ℤ) (q : Place) → pos 0 ≤ℤ a → pos 0 ≤ℤ b
     → pos 0 ≤ℤ height l p → pos 0 ≤ℤ height l q → pos 0 ≤ℤ height l (combine a p b q)
-not_right-combine l a p b q f g h k = omega (arith, linear, height-combine l a p b q, nonneg-mul a (height l p) f h, nonneg-mul b (height l q) g k)
+not_right-combine l a p b q f g h k =
+    omega (arith, linear, height-combine l a p b q, nonneg-mul a (height l p) f h, nonneg-mul b (height l q) g k)
 
 -- and to one left of it, where one of them is left of it and has a positive weight
 pub left-combine_one : (l : Line) (a : ℤ) (p : Place) (b : ℤ) (q : Place) → pos 0 <ℤ a → pos 0 ≤ℤ b
     → pos 0 <ℤ height l p → pos 0 ≤ℤ height l q → pos 0 <ℤ height l (combine a p b q)
-left-combine_one l a p b q f g h k = omega (arith, linear, height-combine l a p b q, pos-mul a (height l p) f h, nonneg-mul b (height l q) g k)
+left-combine_one l a p b q f g h k =
+    omega (arith, linear, height-combine l a p b q, pos-mul a (height l p) f h, nonneg-mul b (height l q) g k)
 
 -- ---- where a segment crosses a line
 

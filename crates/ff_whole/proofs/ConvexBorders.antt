@@ -76,7 +76,8 @@ module _ (n : ℕ) (v : ℕ → Pt) (ring : IsConvexRing n v) (m : Place) (w : p
 
   forward : (fuel k : ℕ) → k < n → IsLevel k → pos 0 ≤ℤ dot (edge j) (off m (v k))
       → dot (edge j) (off m (v k)) ≤ℤ pos fuel → IsOnRing n v m
-  forward zero k h s near bound = (k, h, on_start (edge j) (v k) (v (next n k)) m w (long j hj) s.level (omega (arith, ints)))
+  forward zero k h s near bound =
+      (k, h, on_start (edge j) (v k) (v (next n k)) m w (long j hj) s.level (omega (arith, ints)))
   forward (suc fuel) k h s near bound = by_sign (dot (edge j) (off m (v k)))
       (λ l. absurd (omega (arith, linear)))
       (λ here. (k, h, on_start (edge j) (v k) (v (next n k)) m w (long j hj) s.level here))
@@ -155,11 +156,13 @@ module _ (n : ℕ) (v : ℕ → Pt) (ring : IsConvexRing n v) (m : Place) (w : p
 -- a place right of no edge is left of each, or on one
 pub inside_or_on : (n : ℕ) (v : ℕ → Pt) → IsConvexRing n v → (m : Place) → pos 0 <ℤ m.w → IsNotOutside n v m
     → IsOnRing n v m ⊎ ((i : ℕ) → i < n → pos 0 <ℤ height (through (v i) (v (next n i))) m)
-inside_or_on n v ring m w inner = elim (search n (λ i. height (through (v i) (v (next n i))) m ≡ pos 0) (λ i. pos 0 <ℤ height (through (v i) (v (next n i))) m) decide) [
-  | inl r ↦ inl (on_ring n v ring m w inner r.0 r.1 r.2)
-  | inr all ↦ inr all
-]
+inside_or_on n v ring m w inner =
+    elim (search n (λ i. height (through (v i) (v (next n i))) m ≡ pos 0) (λ i. pos 0 <ℤ height (through (v i) (v (next n i))) m) decide) [
+      | inl r ↦ inl (on_ring n v ring m w inner r.0 r.1 r.2)
+      | inr all ↦ inr all
+    ]
   where
     decide : (i : ℕ) → i < n
         → (height (through (v i) (v (next n i))) m ≡ pos 0) ⊎ (pos 0 <ℤ height (through (v i) (v (next n i))) m)
-    decide i l = let h = inner i l in by_sign (height (through (v i) (v (next n i))) m) (λ x. absurd (omega (arith, linear))) inl inr
+    decide i l = let h = inner i l in
+        by_sign (height (through (v i) (v (next n i))) m) (λ x. absurd (omega (arith, linear))) inl inr

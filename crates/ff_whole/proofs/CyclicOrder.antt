@@ -12,7 +12,8 @@ use Rattle.ff_whole.specs.declared.points.Pt.{Pt}
 
 -- going round counterclockwise from a, b comes no later than c
 abbrev pub IsTurned : Pt → Pt → Pt → Type 0
-IsTurned a b c = (pos 0 <ℤ cross a b) × (pos 0 <ℤ cross b c) ⊎ ((pos 0 <ℤ cross b c) × (pos 0 <ℤ cross c a) ⊎ (pos 0 <ℤ cross c a) × (pos 0 <ℤ cross a b))
+IsTurned a b c =
+    (pos 0 <ℤ cross a b) × (pos 0 <ℤ cross b c) ⊎ ((pos 0 <ℤ cross b c) × (pos 0 <ℤ cross c a) ⊎ (pos 0 <ℤ cross c a) × (pos 0 <ℤ cross a b))
 
 -- two directions aren't one: not parallel with a product that isn't below 0
 abbrev pub AreDifferent : Pt → Pt → Type 0
@@ -20,7 +21,8 @@ AreDifferent a b = cross a b ≡ pos 0 → dot a b <ℤ pos 0
 
 -- it does not matter which is named first
 pub different_flip : (a b : Pt) → AreDifferent a b → AreDifferent b a
-different_flip a b d z = let e = cross-flip b a in let f = dot-flip a b in let l = d (omega (arith, linear)) in omega (arith, linear)
+different_flip a b d z = let e = cross-flip b a in let f = dot-flip a b in let l = d (omega (arith, linear)) in
+    omega (arith, linear)
 
 -- ---- it may begin with any of the three, and goes round one way only
 
@@ -40,15 +42,24 @@ turned_once a b c h k =
   where
     clash : IsTurned a b c → IsTurned a c b → cross b a ≡ neg_ℤ (cross a b) → cross c b ≡ neg_ℤ (cross b c)
         → cross a c ≡ neg_ℤ (cross c a) → ⊥
-    clash (inl x) (inl y) e f g = let x0 = x.0 in let x1 = x.1 in let y0 = y.0 in let y1 = y.1 in omega (arith, linear)
-    clash (inl x) (inr (inl y)) e f g = let x0 = x.0 in let x1 = x.1 in let y0 = y.0 in let y1 = y.1 in omega (arith, linear)
-    clash (inl x) (inr (inr y)) e f g = let x0 = x.0 in let x1 = x.1 in let y0 = y.0 in let y1 = y.1 in omega (arith, linear)
-    clash (inr (inl x)) (inl y) e f g = let x0 = x.0 in let x1 = x.1 in let y0 = y.0 in let y1 = y.1 in omega (arith, linear)
-    clash (inr (inl x)) (inr (inl y)) e f g = let x0 = x.0 in let x1 = x.1 in let y0 = y.0 in let y1 = y.1 in omega (arith, linear)
-    clash (inr (inl x)) (inr (inr y)) e f g = let x0 = x.0 in let x1 = x.1 in let y0 = y.0 in let y1 = y.1 in omega (arith, linear)
-    clash (inr (inr x)) (inl y) e f g = let x0 = x.0 in let x1 = x.1 in let y0 = y.0 in let y1 = y.1 in omega (arith, linear)
-    clash (inr (inr x)) (inr (inl y)) e f g = let x0 = x.0 in let x1 = x.1 in let y0 = y.0 in let y1 = y.1 in omega (arith, linear)
-    clash (inr (inr x)) (inr (inr y)) e f g = let x0 = x.0 in let x1 = x.1 in let y0 = y.0 in let y1 = y.1 in omega (arith, linear)
+    clash (inl x) (inl y) e f g = let x0 = x.0 in let x1 = x.1 in let y0 = y.0 in let y1 = y.1 in
+        omega (arith, linear)
+    clash (inl x) (inr (inl y)) e f g = let x0 = x.0 in let x1 = x.1 in let y0 = y.0 in let y1 = y.1 in
+        omega (arith, linear)
+    clash (inl x) (inr (inr y)) e f g = let x0 = x.0 in let x1 = x.1 in let y0 = y.0 in let y1 = y.1 in
+        omega (arith, linear)
+    clash (inr (inl x)) (inl y) e f g = let x0 = x.0 in let x1 = x.1 in let y0 = y.0 in let y1 = y.1 in
+        omega (arith, linear)
+    clash (inr (inl x)) (inr (inl y)) e f g = let x0 = x.0 in let x1 = x.1 in let y0 = y.0 in let y1 = y.1 in
+        omega (arith, linear)
+    clash (inr (inl x)) (inr (inr y)) e f g = let x0 = x.0 in let x1 = x.1 in let y0 = y.0 in let y1 = y.1 in
+        omega (arith, linear)
+    clash (inr (inr x)) (inl y) e f g = let x0 = x.0 in let x1 = x.1 in let y0 = y.0 in let y1 = y.1 in
+        omega (arith, linear)
+    clash (inr (inr x)) (inr (inl y)) e f g = let x0 = x.0 in let x1 = x.1 in let y0 = y.0 in let y1 = y.1 in
+        omega (arith, linear)
+    clash (inr (inr x)) (inr (inr y)) e f g = let x0 = x.0 in let x1 = x.1 in let y0 = y.0 in let y1 = y.1 in
+        omega (arith, linear)
 
 -- ---- opposite directions
 

@@ -18,7 +18,9 @@ last l p q = combine (height l q) p (neg_ℤ (height l p)) q
 
 height-last : (k l : Line) (p q : Place)
     → height k (last l p q) ≡ height l q *ℤ height k p -ℤ height l p *ℤ height k q
-height-last k l p q = height-combine k (height l q) p (neg_ℤ (height l p)) q ∙ ap (λ z. height l q *ℤ height k p +ℤ z) (neg-*ℤ (height l p) (height k q))
+height-last k l p q =
+    height-combine k (height l q) p (neg_ℤ (height l p)) q
+    ∙ ap (λ z. height l q *ℤ height k p +ℤ z) (neg-*ℤ (height l p) (height k q))
 
 -- some line holds the last place of the way that is right of no line
 pub border_place : (l : Line) (ls : List Line) (p q : Place) → All (λ k. pos 0 <ℤ height k q) (l ∷ ls) → (k : Line)

@@ -18,7 +18,8 @@ distance_positive u v h =
     (λ n. let k = square_pos (v.x -ℤ u.x) n in omega (arith, linear))
   where
     by_zero : {P : Type 0} (z : ℤ) → (z ≡ pos 0 → P) → (z ≢ pos 0 → P) → P
-    by_zero z f g = by_sign z (λ l. g (λ e. absurd (omega (arith, linear)))) f (λ l. g (λ e. absurd (omega (arith, linear))))
+    by_zero z f g =
+        by_sign z (λ l. g (λ e. absurd (omega (arith, linear)))) f (λ l. g (λ e. absurd (omega (arith, linear))))
 
 -- two points with the same dot and cross product from u to v are one
 pub one_image : (u v w z : Pt) → u ≢ v → dot (minus v u) (minus w u) ≡ dot (minus v u) (minus z u)
@@ -30,10 +31,12 @@ one_image u v w z apart d t =
     let d0 : dot (minus v u) (minus w u) -ℤ dot (minus v u) (minus z u) ≡ pos 0 = omega (arith, linear) in
     let t0 : turn u v w -ℤ turn u v z ≡ pos 0 = omega (arith, linear) in
     let in_x : dot (minus v u) (minus v u) *ℤ (w.x -ℤ z.x) ≡ pos 0 =
-    solve_from env (record { by = v'.x ⊖ u'.x; zero = dot_e (minus_e v' u') (minus_e w' u') ⊖ dot_e (minus_e v' u') (minus_e z' u') } ∷ record { by = opp (v'.y ⊖ u'.y); zero = turn_e u' v' w' ⊖ turn_e u' v' z' } ∷ [])
+    solve_from env (record { by = v'.x ⊖ u'.x; zero = dot_e (minus_e v' u') (minus_e w' u') ⊖ dot_e (minus_e v' u') (minus_e z' u') }
+    ∷ record { by = opp (v'.y ⊖ u'.y); zero = turn_e u' v' w' ⊖ turn_e u' v' z' } ∷ [])
     (dot_e (minus_e v' u') (minus_e v' u') ⊗ (w'.x ⊖ z'.x)) (num (pos 0)) refl (d0, (t0, tt)) in
     let in_y : dot (minus v u) (minus v u) *ℤ (w.y -ℤ z.y) ≡ pos 0 =
-    solve_from env (record { by = v'.y ⊖ u'.y; zero = dot_e (minus_e v' u') (minus_e w' u') ⊖ dot_e (minus_e v' u') (minus_e z' u') } ∷ record { by = v'.x ⊖ u'.x; zero = turn_e u' v' w' ⊖ turn_e u' v' z' } ∷ [])
+    solve_from env (record { by = v'.y ⊖ u'.y; zero = dot_e (minus_e v' u') (minus_e w' u') ⊖ dot_e (minus_e v' u') (minus_e z' u') }
+    ∷ record { by = v'.x ⊖ u'.x; zero = turn_e u' v' w' ⊖ turn_e u' v' z' } ∷ [])
     (dot_e (minus_e v' u') (minus_e v' u') ⊗ (w'.y ⊖ z'.y)) (num (pos 0)) refl (d0, (t0, tt)) in
     let x = zero_from_mul (dot (minus v u) (minus v u)) (w.x -ℤ z.x) n in_x in
     let y = zero_from_mul (dot (minus v u) (minus v u)) (w.y -ℤ z.y) n in_y in

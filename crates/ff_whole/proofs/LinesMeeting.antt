@@ -55,11 +55,13 @@ meet_e k l = record { x = k.c ⊗ l.b ⊖ l.c ⊗ k.b; y = k.a ⊗ l.c ⊖ l.a �
 
 -- it is on the first line
 pub on_first : (k l : Line) → height k (place (meet_x k l) (meet_y k l) (slant k l)) ≡ pos 0
-on_first k l = solve (line_env k (line_env l [])) (height_e (line_e 0) (meet_e (line_e 0) (line_e 3))) (num (pos 0)) refl
+on_first k l =
+    solve (line_env k (line_env l [])) (height_e (line_e 0) (meet_e (line_e 0) (line_e 3))) (num (pos 0)) refl
 
 -- and on the second
 pub on_second : (k l : Line) → height l (place (meet_x k l) (meet_y k l) (slant k l)) ≡ pos 0
-on_second k l = solve (line_env k (line_env l [])) (height_e (line_e 3) (meet_e (line_e 0) (line_e 3))) (num (pos 0)) refl
+on_second k l =
+    solve (line_env k (line_env l [])) (height_e (line_e 3) (meet_e (line_e 0) (line_e 3))) (num (pos 0)) refl
 
 -- the place with the opposite numbers is on the line, too
 pub height-opposite : (k : Line) (x y w : ℤ) → height k (place x y w) ≡ pos 0
@@ -77,7 +79,8 @@ pub corner_is : (l : Line) (at : Place) (x y w : ℤ) (p : Place) → IsBelow CO
     → height l (place x y w) ≡ pos 0 → x *ℤ at.w ≡ at.x *ℤ w → IsReduced x y w p → IsCorner l at p
 corner_is l at x y w p bx by bw on same r = record {
   on_line = reduced_height l x y w p r on;
-  same_x = solve_from (at.x ∷ at.w ∷ p.x ∷ p.w ∷ []) (record { by = num (pos 1); zero = var 2 ⊗ var 1 ⊖ var 0 ⊗ var 3 } ∷ []) (var 2 ⊗ var 1) (var 0 ⊗ var 3) refl (through_zero, tt);
+  same_x =
+      solve_from (at.x ∷ at.w ∷ p.x ∷ p.w ∷ []) (record { by = num (pos 1); zero = var 2 ⊗ var 1 ⊖ var 0 ⊗ var 3 } ∷ []) (var 2 ⊗ var 1) (var 0 ⊗ var 3) refl (through_zero, tt);
   x_below = below_factor _ r.by p.x r.by_positive (subst (IsBelow CORNER_SIZE) r.x_is bx);
   y_below = below_factor _ r.by p.y r.by_positive (subst (IsBelow CORNER_SIZE) r.y_is by);
   w_below = below_factor _ r.by p.w r.by_positive (subst (IsBelow CORNER_WEIGHT) r.w_is bw);
@@ -95,7 +98,8 @@ corner_is l at x y w p bx by bw on same r = record {
 
 -- before it is divided
 pub on_corner : (l : Line) (at : Place) → height l (place (at.x *ℤ l.b) (rise l at) (at.w *ℤ l.b)) ≡ pos 0
-on_corner l at = solve (line_env l (place_env at [])) (height_e (line_e 0) (record { x = var 3 ⊗ var 1; y = var 2 ⊗ var 5 ⊖ var 0 ⊗ var 3; w = var 5 ⊗ var 1 })) (num (pos 0)) refl
+on_corner l at =
+    solve (line_env l (place_env at [])) (height_e (line_e 0) (record { x = var 3 ⊗ var 1; y = var 2 ⊗ var 5 ⊖ var 0 ⊗ var 3; w = var 5 ⊗ var 1 })) (num (pos 0)) refl
 
 -- it has that x
 pub at_corner : (l : Line) (at : Place) → (at.x *ℤ l.b) *ℤ at.w ≡ at.x *ℤ (at.w *ℤ l.b)
@@ -103,9 +107,11 @@ at_corner l at = solve (line_env l (place_env at [])) ((var 3 ⊗ var 1) ⊗ var
 
 -- so has the place with the opposite numbers
 pub at_corner_opposite : (l : Line) (at : Place) → neg_ℤ (at.x *ℤ l.b) *ℤ at.w ≡ at.x *ℤ neg_ℤ (at.w *ℤ l.b)
-at_corner_opposite l at = solve (line_env l (place_env at [])) (opp (var 3 ⊗ var 1) ⊗ var 5) (var 3 ⊗ opp (var 5 ⊗ var 1)) refl
+at_corner_opposite l at =
+    solve (line_env l (place_env at [])) (opp (var 3 ⊗ var 1) ⊗ var 5) (var 3 ⊗ opp (var 5 ⊗ var 1)) refl
 
 -- the numbers may be replaced by equal ones
 pub same_reduced : (p : Place) {x y w x' y' w' : ℤ} → x ≡ x' → y ≡ y' → w ≡ w' → IsReduced x y w p
     → IsReduced x' y' w' p
-same_reduced p e f g r = let P : Place → Type 0 = λ q. IsReduced q.x q.y q.w p in subst P (λ i. place (e i) (f i) (g i)) r
+same_reduced p e f g r = let P : Place → Type 0 = λ q. IsReduced q.x q.y q.w p in
+    subst P (λ i. place (e i) (f i) (g i)) r

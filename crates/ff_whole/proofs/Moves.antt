@@ -23,10 +23,12 @@ abbrev pub HasDirection : Line → Type 0
 HasDirection l = (l.a ≢ pos 0) ⊎ (l.b ≢ pos 0)
 
 height-right : (l : Line) → height l right ≡ l.a
-height-right l = solve (l.a ∷ l.b ∷ l.c ∷ []) (var 0 ⊗ num (pos 1) ⊕ var 1 ⊗ num (pos 0) ⊖ var 2 ⊗ num (pos 0)) (var 0) refl
+height-right l =
+    solve (l.a ∷ l.b ∷ l.c ∷ []) (var 0 ⊗ num (pos 1) ⊕ var 1 ⊗ num (pos 0) ⊖ var 2 ⊗ num (pos 0)) (var 0) refl
 
 height-upwards : (l : Line) → height l upwards ≡ l.b
-height-upwards l = solve (l.a ∷ l.b ∷ l.c ∷ []) (var 0 ⊗ num (pos 0) ⊕ var 1 ⊗ num (pos 1) ⊖ var 2 ⊗ num (pos 0)) (var 1) refl
+height-upwards l =
+    solve (l.a ∷ l.b ∷ l.c ∷ []) (var 0 ⊗ num (pos 0) ⊕ var 1 ⊗ num (pos 1) ⊖ var 2 ⊗ num (pos 0)) (var 1) refl
 
 not_along : (l : Line) → HasDirection l → NotAlong right upwards l
 not_along l (inl f) = inl (λ z. f (sym (height-right l) ∙ z))

@@ -19,12 +19,14 @@ pub record IsOn (p q : Pt) (m : Place) : Type 0 where
 -- such a place is the ends, each times how far it is from the other one, in x
 pub on-x : (p q : Pt) (m : Place) → IsOn p q m
     → dot (minus q p) (minus q p) *ℤ m.x ≡ past p q m *ℤ q.x +ℤ past q p m *ℤ p.x
-on-x p q m h = let e = past-x p q m in let z = zero-mul (height (through p q) m) (q.y -ℤ p.y) h.on in omega (arith, linear)
+on-x p q m h = let e = past-x p q m in let z = zero-mul (height (through p q) m) (q.y -ℤ p.y) h.on in
+    omega (arith, linear)
 
 -- and in y
 pub on-y : (p q : Pt) (m : Place) → IsOn p q m
     → dot (minus q p) (minus q p) *ℤ m.y ≡ past p q m *ℤ q.y +ℤ past q p m *ℤ p.y
-on-y p q m h = let e = past-y p q m in let z = zero-mul (height (through p q) m) (q.x -ℤ p.x) h.on in omega (arith, linear)
+on-y p q m h = let e = past-y p q m in let z = zero-mul (height (through p q) m) (q.x -ℤ p.x) h.on in
+    omega (arith, linear)
 
 -- a square is not negative
 pub dot_nonneg : (u : Pt) → pos 0 ≤ℤ dot u u

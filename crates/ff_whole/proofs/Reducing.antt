@@ -65,7 +65,8 @@ code w a d f h = ap (λ z. int_div z (to_z w d)) (to_z-of_z w a f) ∙ ap (λ z.
 -- a quotient of the code fits its type
 pub code_fits : (w : Width) (a : ℤ) (d : ℕ) → FitsSigned w a → 0 < d → d < 2 ^ hbits w
     → FitsSigned w (int_div (to_z w (of_z w a)) (to_z w d))
-code_fits w a d f some h = let above : pos 0 <ℤ pos d = omega (arith, ints) in subst (FitsSigned w) (sym (code w a d f h)) (quot_fits w a (pos d) f above)
+code_fits w a d f some h = let above : pos 0 <ℤ pos d = omega (arith, ints) in
+    subst (FitsSigned w) (sym (code w a d f h)) (quot_fits w a (pos d) f above)
 
 -- and is the quotient of the numbers
 pub code_quot : (w : Width) (a : ℤ) (d : ℕ) → FitsSigned w a → 0 < d → d < 2 ^ hbits w

@@ -45,13 +45,16 @@ convex_from_clockwise n v r = record { left = left; wide = wide }
     -- how far left of the edge after i, read backward, is how far right of the same edge, read forward
     other_side : (i : ℕ) → i < n → (p : Pt)
         → turn (v (back n i)) (v (back n (next n i))) p ≡ neg_ℤ (turn (v (back n (next n i))) (v (next n (back n (next n i)))) p)
-    other_side i h p = turn-swap (v (back n (next n i))) (v (back n i)) p ∙ ap (λ k. neg_ℤ (turn (v (back n (next n i))) (v k) p)) (sym (next-back n i h))
+    other_side i h p =
+        turn-swap (v (back n (next n i))) (v (back n i)) p
+        ∙ ap (λ k. neg_ℤ (turn (v (back n (next n i))) (v k) p)) (sym (next-back n i h))
 
     edge : (i : ℕ) → i < n → back n (next n i) < n
     edge i h = back-below n (next n i) (next-below n i h)
 
     left : (i j : ℕ) → i < n → j < n → pos 0 ≤ℤ turn (v (back n i)) (v (back n (next n i))) (v (back n j))
-    left i j h k = let e = other_side i h (v (back n j)) in let f = r.right (back n (next n i)) (back n j) (edge i h) (back-below n j k) in omega (arith, linear)
+    left i j h k = let e = other_side i h (v (back n j)) in
+        let f = r.right (back n (next n i)) (back n j) (edge i h) (back-below n j k) in omega (arith, linear)
 
     wide : (i : ℕ) → i < n
         → (j : ℕ) × (j < n) × (pos 0 <ℤ turn (v (back n i)) (v (back n (next n i))) (v (back n j)))
@@ -65,14 +68,18 @@ convex_from_clockwise n v r = record { left = left; wide = wide }
 pub on_clockwise : (n : ℕ) (v : ℕ → Pt) → IsClockwise n v → (m : Place) → pos 0 <ℤ m.w
     → ((i : ℕ) → i < n → height (through (v i) (v (next n i))) m ≤ℤ pos 0)
     → (j : ℕ) → j < n → height (through (v j) (v (next n j))) m ≡ pos 0 → IsOnRing n v m
-on_clockwise n v r m w inner j h on = found (on_ring n (backward n v) (convex_from_clockwise n v r) m w not_outside (back n (next n j)) (back-below n (next n j) (next-below n j h)) at)
+on_clockwise n v r m w inner j h on =
+    found (on_ring n (backward n v) (convex_from_clockwise n v r) m w not_outside (back n (next n j)) (back-below n (next n j) (next-below n j h)) at)
   where
     height_other : (i : ℕ) → i < n
         → height (through (v (back n i)) (v (back n (next n i)))) m ≡ neg_ℤ (height (through (v (back n (next n i))) (v (next n (back n (next n i))))) m)
-    height_other i h = height-back (v (back n (next n i))) (v (back n i)) m ∙ ap (λ k. neg_ℤ (height (through (v (back n (next n i))) (v k)) m)) (sym (next-back n i h))
+    height_other i h =
+        height-back (v (back n (next n i))) (v (back n i)) m
+        ∙ ap (λ k. neg_ℤ (height (through (v (back n (next n i))) (v k)) m)) (sym (next-back n i h))
 
     not_outside : (i : ℕ) → i < n → pos 0 ≤ℤ height (through (v (back n i)) (v (back n (next n i)))) m
-    not_outside i h = let e = height_other i h in let f = inner (back n (next n i)) (back-below n (next n i) (next-below n i h)) in omega (arith, linear)
+    not_outside i h = let e = height_other i h in
+        let f = inner (back n (next n i)) (back-below n (next n i) (next-below n i h)) in omega (arith, linear)
 
     -- the edge j, read backward, begins where it ends
     there : back n (next n (back n (next n j))) ≡ j

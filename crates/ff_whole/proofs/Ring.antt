@@ -69,7 +69,8 @@ put (negsuc n) m p = term (negsuc n) m p
 -- one term, merged into a normal form, and then the rest
 abbrev pub into : ℤ → List ℕ → (Poly → Poly) → Poly → Poly
 into c m rest nil = term c m (rest nil)
-into c m rest (term d n q) = elim (way_of m n) [ less ↦ term c m (rest (term d n q)) | same ↦ put (c +ℤ d) m (rest q) | more ↦ term d n (into c m rest q) ]
+into c m rest (term d n q) =
+    elim (way_of m n) [ less ↦ term c m (rest (term d n q)) | same ↦ put (c +ℤ d) m (rest q) | more ↦ term d n (into c m rest q) ]
 
 -- the sum of two normal forms
 abbrev pub merge : Poly → Poly → Poly

@@ -28,7 +28,8 @@ sum (suc n) f = sum n f +ℤ f n
 -- a sum of numbers that are not negative is not negative
 pub sum-nonneg : (n : ℕ) (f : ℕ → ℤ) → ((i : ℕ) → i < n → pos 0 ≤ℤ f i) → pos 0 ≤ℤ sum n f
 sum-nonneg zero f h = omega (arith, linear)
-sum-nonneg (suc n) f h = let a = sum-nonneg n f (λ i l. h i (omega arith)) in let b = h n (omega arith) in omega (arith, linear)
+sum-nonneg (suc n) f h = let a = sum-nonneg n f (λ i l. h i (omega arith)) in let b = h n (omega arith) in
+    omega (arith, linear)
 
 -- and positive where one of them is
 pub sum-pos : (n : ℕ) (f : ℕ → ℤ) → ((i : ℕ) → i < n → pos 0 ≤ℤ f i) → (k : ℕ) → k < n → pos 0 <ℤ f k
@@ -36,10 +37,12 @@ pub sum-pos : (n : ℕ) (f : ℕ → ℤ) → ((i : ℕ) → i < n → pos 0 ≤
 sum-pos zero f h k l p = absurd (omega arith)
 sum-pos (suc n) f h k l p = elim (below_or_last n k l) [
   | inl s ↦ let a = sum-pos n f (λ i m. h i (omega arith)) k s p in let b = h n (omega arith) in omega (arith, linear)
-  | inr e ↦ let a = sum-nonneg n f (λ i m. h i (omega arith)) in let b = subst (λ i. pos 0 <ℤ f i) e p in omega (arith, linear)
+  | inr e ↦ let a = sum-nonneg n f (λ i m. h i (omega arith)) in let b = subst (λ i. pos 0 <ℤ f i) e p in
+      omega (arith, linear)
 ]
 
 -- a sum of zeros is 0
 pub sum-zero : (n : ℕ) (f : ℕ → ℤ) → ((i : ℕ) → i < n → f i ≡ pos 0) → sum n f ≡ pos 0
 sum-zero zero f h = omega (arith, linear)
-sum-zero (suc n) f h = let a = sum-zero n f (λ i l. h i (omega arith)) in let b = h n (omega arith) in omega (arith, linear)
+sum-zero (suc n) f h = let a = sum-zero n f (λ i l. h i (omega arith)) in let b = h n (omega arith) in
+    omega (arith, linear)

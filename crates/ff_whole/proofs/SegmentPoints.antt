@@ -109,8 +109,10 @@ proper a b c d h1 h2 h3 h4 =
       v_nonneg = omega (arith, linear);
       some = omega (arith, linear);
       sums = omega (arith, linear);
-      same_x = solve env (opp (turn_e c' d' b') ⊗ a'.x ⊕ turn_e c' d' a' ⊗ b'.x) (turn_e a' b' d' ⊗ c'.x ⊕ opp (turn_e a' b' c') ⊗ d'.x) refl;
-      same_y = solve env (opp (turn_e c' d' b') ⊗ a'.y ⊕ turn_e c' d' a' ⊗ b'.y) (turn_e a' b' d' ⊗ c'.y ⊕ opp (turn_e a' b' c') ⊗ d'.y) refl;
+      same_x =
+          solve env (opp (turn_e c' d' b') ⊗ a'.x ⊕ turn_e c' d' a' ⊗ b'.x) (turn_e a' b' d' ⊗ c'.x ⊕ opp (turn_e a' b' c') ⊗ d'.x) refl;
+      same_y =
+          solve env (opp (turn_e c' d' b') ⊗ a'.y ⊕ turn_e c' d' a' ⊗ b'.y) (turn_e a' b' d' ⊗ c'.y ⊕ opp (turn_e a' b' c') ⊗ d'.y) refl;
       within = inl (omega (arith, linear), omega (arith, linear));
     }
 
@@ -164,13 +166,16 @@ within_shared a b c d m =
 
 -- the law, from signs to weights
 pub shared_from_crossing : (a b c d : Pt) → AreCrossing a b c d → IsShared a b c d
-shared_from_crossing a b c d (inl (inl y, inl z)) = let e = turn-sums a b c d in let y0 = y.0 in let y1 = y.1 in let z0 = z.0 in let z1 = z.1 in absurd (omega (arith, linear))
+shared_from_crossing a b c d (inl (inl y, inl z)) = let e = turn-sums a b c d in let y0 = y.0 in let y1 = y.1 in
+    let z0 = z.0 in let z1 = z.1 in absurd (omega (arith, linear))
 shared_from_crossing a b c d (inl (inl y, inr z)) = proper a b c d y.0 y.1 z.0 z.1
 shared_from_crossing a b c d (inl (inr y, inl z)) =
     let e = turn-back c d a in let f = turn-back c d b in let z0 = z.0 in let z1 = z.1 in
     swap_ends a b d c (proper a b d c y.1 y.0 (omega (arith, linear)) (omega (arith, linear)))
-shared_from_crossing a b c d (inl (inr y, inr z)) = let e = turn-sums a b c d in let y0 = y.0 in let y1 = y.1 in let z0 = z.0 in let z1 = z.1 in absurd (omega (arith, linear))
+shared_from_crossing a b c d (inl (inr y, inr z)) = let e = turn-sums a b c d in let y0 = y.0 in let y1 = y.1 in
+    let z0 = z.0 in let z1 = z.1 in absurd (omega (arith, linear))
 shared_from_crossing a b c d (inr (inl m)) = within_shared a b c d m
 shared_from_crossing a b c d (inr (inr (inl m))) = swap_ends a b d c (within_shared a b d c m)
 shared_from_crossing a b c d (inr (inr (inr (inl m)))) = swap_segments c d a b (within_shared c d a b m)
-shared_from_crossing a b c d (inr (inr (inr (inr m)))) = swap_segments c d a b (swap_ends c d b a (within_shared c d b a m))
+shared_from_crossing a b c d (inr (inr (inr (inr m)))) =
+    swap_segments c d a b (swap_ends c d b a (within_shared c d b a m))

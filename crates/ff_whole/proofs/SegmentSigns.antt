@@ -17,14 +17,16 @@ opposed-cross : (s t : ℤ) (a b : Pt) → s *ℤ a.x +ℤ t *ℤ b.x ≡ pos 0 
     → s *ℤ cross a b ≡ pos 0
 opposed-cross s t a b hx hy =
     let a' = point_e 2 in let b' = point_e 4 in
-    solve_from (s ∷ t ∷ point_env a (point_env b [])) (record { by = b'.y; zero = var 0 ⊗ a'.x ⊕ var 1 ⊗ b'.x } ∷ record { by = opp b'.x; zero = var 0 ⊗ a'.y ⊕ var 1 ⊗ b'.y } ∷ [])
+    solve_from (s ∷ t ∷ point_env a (point_env b [])) (record { by = b'.y; zero = var 0 ⊗ a'.x ⊕ var 1 ⊗ b'.x }
+    ∷ record { by = opp b'.x; zero = var 0 ⊗ a'.y ⊕ var 1 ⊗ b'.y } ∷ [])
     (var 0 ⊗ cross_e a' b') (num (pos 0)) refl (hx, (hy, tt))
 
 opposed-dot : (s t : ℤ) (a b : Pt) → s *ℤ a.x +ℤ t *ℤ b.x ≡ pos 0 → s *ℤ a.y +ℤ t *ℤ b.y ≡ pos 0
     → s *ℤ dot a b ≡ neg_ℤ (t *ℤ dot b b)
 opposed-dot s t a b hx hy =
     let a' = point_e 2 in let b' = point_e 4 in
-    solve_from (s ∷ t ∷ point_env a (point_env b [])) (record { by = b'.x; zero = var 0 ⊗ a'.x ⊕ var 1 ⊗ b'.x } ∷ record { by = b'.y; zero = var 0 ⊗ a'.y ⊕ var 1 ⊗ b'.y } ∷ [])
+    solve_from (s ∷ t ∷ point_env a (point_env b [])) (record { by = b'.x; zero = var 0 ⊗ a'.x ⊕ var 1 ⊗ b'.x }
+    ∷ record { by = b'.y; zero = var 0 ⊗ a'.y ⊕ var 1 ⊗ b'.y } ∷ [])
     (var 0 ⊗ dot_e a' b') (opp (var 1 ⊗ dot_e b' b')) refl (hx, (hy, tt))
 
 -- and b isn't 0 where a and b differ
@@ -101,7 +103,8 @@ turns-weighed a b c d m =
     let y : m.s *ℤ a.y +ℤ m.t *ℤ b.y -ℤ (m.u *ℤ c.y +ℤ m.v *ℤ d.y) ≡ pos 0 = omega (arith, linear) in
     let w : m.s +ℤ m.t -ℤ (m.u +ℤ m.v) ≡ pos 0 = omega (arith, linear) in
     solve_from (point_env a (point_env b (point_env c (point_env d (m.s ∷ m.t ∷ m.u ∷ m.v ∷ [])))))
-    (record { by = b'.y ⊖ a'.y; zero = s' ⊗ a'.x ⊕ t' ⊗ b'.x ⊖ (u' ⊗ c'.x ⊕ v' ⊗ d'.x) } ∷ record { by = opp (b'.x ⊖ a'.x); zero = s' ⊗ a'.y ⊕ t' ⊗ b'.y ⊖ (u' ⊗ c'.y ⊕ v' ⊗ d'.y) }
+    (record { by = b'.y ⊖ a'.y; zero = s' ⊗ a'.x ⊕ t' ⊗ b'.x ⊖ (u' ⊗ c'.x ⊕ v' ⊗ d'.x) }
+    ∷ record { by = opp (b'.x ⊖ a'.x); zero = s' ⊗ a'.y ⊕ t' ⊗ b'.y ⊖ (u' ⊗ c'.y ⊕ v' ⊗ d'.y) }
     ∷ record { by = (b'.x ⊖ a'.x) ⊗ a'.y ⊖ (b'.y ⊖ a'.y) ⊗ a'.x; zero = s' ⊕ t' ⊖ (u' ⊕ v') } ∷ [])
     (turn_e a' b' c' ⊗ u' ⊕ turn_e a' b' d' ⊗ v') (num (pos 0)) refl (x, (y, (w, tt)))
 
@@ -119,19 +122,23 @@ alongs-weighed a b c d m =
     let w : m.s +ℤ m.t -ℤ (m.u +ℤ m.v) ≡ pos 0 = omega (arith, linear) in
     let k' = minus_e b' a' in
     solve_from (point_env a (point_env b (point_env c (point_env d (m.s ∷ m.t ∷ m.u ∷ m.v ∷ [])))))
-    (record { by = opp (b'.x ⊖ a'.x); zero = s' ⊗ a'.x ⊕ t' ⊗ b'.x ⊖ (u' ⊗ c'.x ⊕ v' ⊗ d'.x) } ∷ record { by = opp (b'.y ⊖ a'.y); zero = s' ⊗ a'.y ⊕ t' ⊗ b'.y ⊖ (u' ⊗ c'.y ⊕ v' ⊗ d'.y) }
+    (record { by = opp (b'.x ⊖ a'.x); zero = s' ⊗ a'.x ⊕ t' ⊗ b'.x ⊖ (u' ⊗ c'.x ⊕ v' ⊗ d'.x) }
+    ∷ record { by = opp (b'.y ⊖ a'.y); zero = s' ⊗ a'.y ⊕ t' ⊗ b'.y ⊖ (u' ⊗ c'.y ⊕ v' ⊗ d'.y) }
     ∷ record { by = (b'.x ⊖ a'.x) ⊗ a'.x ⊕ (b'.y ⊖ a'.y) ⊗ a'.y; zero = s' ⊕ t' ⊖ (u' ⊕ v') } ∷ [])
     (dot_e k' (minus_e c' a') ⊗ u' ⊕ dot_e k' (minus_e d' a') ⊗ v') (dot_e k' k' ⊗ t') refl (x, (y, (w, tt)))
 
 -- x u + y v is 0, and u and v are positive
 below_from_above : (x y u v : ℤ) → x *ℤ u +ℤ y *ℤ v ≡ pos 0 → pos 0 <ℤ u → pos 0 <ℤ v → pos 0 <ℤ x → y <ℤ pos 0
-below_from_above x y u v h pu pv px = let p = pos-mul x u px pu in let c = *ℤ_comm y v in neg_from_mul v y pv (omega (arith, linear))
+below_from_above x y u v h pu pv px = let p = pos-mul x u px pu in let c = *ℤ_comm y v in
+    neg_from_mul v y pv (omega (arith, linear))
 
 above_from_below : (x y u v : ℤ) → x *ℤ u +ℤ y *ℤ v ≡ pos 0 → pos 0 <ℤ u → pos 0 <ℤ v → x <ℤ pos 0 → pos 0 <ℤ y
-above_from_below x y u v h pu pv nx = let p = neg-mul_pos x u nx pu in let c = *ℤ_comm y v in pos_from_mul v y pv (omega (arith, linear))
+above_from_below x y u v h pu pv nx = let p = neg-mul_pos x u nx pu in let c = *ℤ_comm y v in
+    pos_from_mul v y pv (omega (arith, linear))
 
 zero_from_zero : (x y u v : ℤ) → x *ℤ u +ℤ y *ℤ v ≡ pos 0 → pos 0 <ℤ v → x ≡ pos 0 → y ≡ pos 0
-zero_from_zero x y u v h pv z = let e = zero-mul x u z in let c = *ℤ_comm y v in zero_from_mul v y pv (omega (arith, linear))
+zero_from_zero x y u v h pv z = let e = zero-mul x u z in let c = *ℤ_comm y v in
+    zero_from_mul v y pv (omega (arith, linear))
 
 -- ---- points on one line, by how far along they are
 
@@ -183,7 +190,8 @@ less_far c d n s t u v w h hn hs hu hv k =
     let w0 : s +ℤ t -ℤ (u +ℤ v) ≡ pos 0 = omega (arith, linear) in
     let h0 : c *ℤ u +ℤ d *ℤ v -ℤ n *ℤ t ≡ pos 0 = omega (arith, linear) in
     let e : v *ℤ (n -ℤ d) ≡ n *ℤ s +ℤ (c -ℤ n) *ℤ u =
-    solve_from (c ∷ d ∷ n ∷ s ∷ t ∷ u ∷ v ∷ []) (record { by = opp (var 2); zero = var 3 ⊕ var 4 ⊖ (var 5 ⊕ var 6) } ∷ record { by = opp (num (pos 1)); zero = var 0 ⊗ var 5 ⊕ var 1 ⊗ var 6 ⊖ var 2 ⊗ var 4 } ∷ [])
+    solve_from (c ∷ d ∷ n ∷ s ∷ t ∷ u ∷ v ∷ []) (record { by = opp (var 2); zero = var 3 ⊕ var 4 ⊖ (var 5 ⊕ var 6) }
+    ∷ record { by = opp (num (pos 1)); zero = var 0 ⊗ var 5 ⊕ var 1 ⊗ var 6 ⊖ var 2 ⊗ var 4 } ∷ [])
     (var 6 ⊗ (var 2 ⊖ var 1)) (var 2 ⊗ var 3 ⊕ (var 0 ⊖ var 2) ⊗ var 5) refl (w0, (h0, tt)) in
     let p = pos-mul n s hn hs in
     let q = nonneg-mul (c -ℤ n) u (omega (arith, linear)) (omega (arith, linear)) in

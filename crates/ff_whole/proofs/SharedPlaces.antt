@@ -34,11 +34,13 @@ one_place k l p q d kp lp kq lq = (same (p.x *ℤ q.w) (q.x *ℤ p.w) in_x, same
     in_x : slant k l *ℤ (p.x *ℤ q.w -ℤ q.x *ℤ p.w) ≡ pos 0
     in_x = solve_from (line_env k (line_env l (place_env p (place_env q []))))
         (record { by = q'.w ⊗ l'.b; zero = height_e k' p' } ∷ record { by = opp (q'.w ⊗ k'.b); zero = height_e l' p' }
-        ∷ record { by = opp (p'.w ⊗ l'.b); zero = height_e k' q' } ∷ record { by = p'.w ⊗ k'.b; zero = height_e l' q' } ∷ [])
+        ∷ record { by = opp (p'.w ⊗ l'.b); zero = height_e k' q' }
+        ∷ record { by = p'.w ⊗ k'.b; zero = height_e l' q' } ∷ [])
         (slant_e k' l' ⊗ (p'.x ⊗ q'.w ⊖ q'.x ⊗ p'.w)) (num (pos 0)) refl (kp, (lp, (kq, (lq, tt))))
 
     in_y : slant k l *ℤ (p.y *ℤ q.w -ℤ q.y *ℤ p.w) ≡ pos 0
     in_y = solve_from (line_env k (line_env l (place_env p (place_env q []))))
         (record { by = opp (q'.w ⊗ l'.a); zero = height_e k' p' } ∷ record { by = q'.w ⊗ k'.a; zero = height_e l' p' }
-        ∷ record { by = p'.w ⊗ l'.a; zero = height_e k' q' } ∷ record { by = opp (p'.w ⊗ k'.a); zero = height_e l' q' } ∷ [])
+        ∷ record { by = p'.w ⊗ l'.a; zero = height_e k' q' }
+        ∷ record { by = opp (p'.w ⊗ k'.a); zero = height_e l' q' } ∷ [])
         (slant_e k' l' ⊗ (p'.y ⊗ q'.w ⊖ q'.y ⊗ p'.w)) (num (pos 0)) refl (kp, (lp, (kq, (lq, tt))))

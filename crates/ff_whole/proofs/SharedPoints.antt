@@ -38,7 +38,13 @@ crossing_from_mixed a b c d s t u v ab cd differ m no_end =
       sums = omega (arith, ints);
       same_x = ap (λ p. p.x) m.same;
       same_y = ap (λ p. p.y) m.same;
-      within = elim no_end [ inl h ↦ let x = h.0 in let y = h.1 in inl (omega (arith, ints), omega (arith, ints)) | inr h ↦ let x = h.0 in let y = h.1 in inr (omega (arith, ints), omega (arith, ints)) ];
+      within =
+          elim no_end [
+            | inl h ↦ let x =
+                h.0 in let y = h.1 in inl (omega (arith, ints), omega (arith, ints))
+            | inr h ↦ let x = h.0 in
+                let y = h.1 in inr (omega (arith, ints), omega (arith, ints))
+          ];
     })
 
 -- segments have such a point
@@ -60,7 +66,13 @@ in_whole a b c d (pos s) (pos t) (pos u) (pos v) hs ht hu hv some sums x y withi
   u = u;
   v = v;
   point = record { some = omega (arith, ints); sums = omega (arith, ints); same = λ i. record { x = x i; y = y i } };
-  no_end = elim within [ inl h ↦ let f = h.0 in let g = h.1 in inl (omega (arith, ints), omega (arith, ints)) | inr h ↦ let f = h.0 in let g = h.1 in inr (omega (arith, ints), omega (arith, ints)) ];
+  no_end =
+      elim within [
+        | inl h ↦ let f =
+            h.0 in let g = h.1 in inl (omega (arith, ints), omega (arith, ints))
+        | inr h ↦ let f = h.0 in let g = h.1 in
+            inr (omega (arith, ints), omega (arith, ints))
+      ];
 }
 in_whole a b c d (negsuc s) t u v hs ht hu hv some sums x y within = absurd (omega (arith, ints))
 in_whole a b c d (pos s) (negsuc t) u v hs ht hu hv some sums x y within = absurd (omega (arith, ints))

@@ -51,7 +51,8 @@ decide l p d n h =
     omega (arith, linear)
 
 decided : (l : Line) (p d : Place) (n : ℕ) → nat_abs (height l d) < n → IsDecided p d n l
-decided l p d n k = record { keeps_left = keep_left l p d n k; keeps_right = keep_right l p d n k; decides = decide l p d n }
+decided l p d n k =
+    record { keeps_left = keep_left l p d n k; keeps_right = keep_right l p d n k; decides = decide l p d n }
 
 -- a short enough way keeps every strict sign and decides the others
 pub shift : (ls : List Line) (p d : Place) → (m : ℕ) × ((n : ℕ) → m ≤ n → All (IsDecided p d n) ls)
@@ -76,7 +77,8 @@ off_number u v n h e =
 -- on a segment whose ends aren't both on the line, few places are on it
 off_one : (l : Line) (s t : Place) → (height l s ≢ pos 0) ⊎ (height l t ≢ pos 0) → (n : ℕ)
     → nat_abs (height l t) < n → height l (moved n s t) ≢ pos 0
-off_one l s t h n k z = let r = off_number (height l s) (height l t) n k (sym (height-combine l (pos n) s (pos 1) t) ∙ z) in elim h [ inl f ↦ f r.0 | inr f ↦ f r.1 ]
+off_one l s t h n k z = let r = off_number (height l s) (height l t) n k (sym (height-combine l (pos n) s (pos 1) t) ∙ z) in
+    elim h [ inl f ↦ f r.0 | inr f ↦ f r.1 ]
 
 -- the segment from s to t is not on the line
 abbrev pub NotAlong : Place → Place → Line → Type 0

@@ -137,19 +137,23 @@ pub *ℤ-distrib_sub : (a b c : ℤ) → a *ℤ (b -ℤ c) ≡ a *ℤ b -ℤ a *
 
 -- both sides of an inequality times a number that is not negative
 pub le-mul_left : (a b c : ℤ) → pos 0 ≤ℤ a → b ≤ℤ c → (a *ℤ b) ≤ℤ (a *ℤ c)
-le-mul_left a b c h k = let d : pos 0 ≤ℤ (c -ℤ b) = omega (arith, linear) in let m = nonneg-mul a (c -ℤ b) h d in let e = *ℤ-distrib_sub a c b in omega (arith, linear)
+le-mul_left a b c h k = let d : pos 0 ≤ℤ (c -ℤ b) = omega (arith, linear) in let m = nonneg-mul a (c -ℤ b) h d in
+    let e = *ℤ-distrib_sub a c b in omega (arith, linear)
 
 -- both sides of a strict inequality times a positive number
 pub lt-mul_left : (a b c : ℤ) → pos 0 <ℤ a → b <ℤ c → (a *ℤ b) <ℤ (a *ℤ c)
-lt-mul_left a b c h k = let d : pos 0 <ℤ (c -ℤ b) = omega (arith, linear) in let m = pos-mul a (c -ℤ b) h d in let e = *ℤ-distrib_sub a c b in omega (arith, linear)
+lt-mul_left a b c h k = let d : pos 0 <ℤ (c -ℤ b) = omega (arith, linear) in let m = pos-mul a (c -ℤ b) h d in
+    let e = *ℤ-distrib_sub a c b in omega (arith, linear)
 
 -- a positive factor is cancelled on both sides of an inequality
 pub le_from_mul : (a b c : ℤ) → pos 0 <ℤ a → (a *ℤ b) ≤ℤ (a *ℤ c) → b ≤ℤ c
-le_from_mul a b c h k = let e = *ℤ-distrib_sub a c b in let m : pos 0 ≤ℤ (a *ℤ (c -ℤ b)) = omega (arith, linear) in let d = nonneg_from_mul a (c -ℤ b) h m in omega (arith, linear)
+le_from_mul a b c h k = let e = *ℤ-distrib_sub a c b in let m : pos 0 ≤ℤ (a *ℤ (c -ℤ b)) = omega (arith, linear) in
+    let d = nonneg_from_mul a (c -ℤ b) h m in omega (arith, linear)
 
 -- and of a strict one
 pub lt_from_mul : (a b c : ℤ) → pos 0 <ℤ a → (a *ℤ b) <ℤ (a *ℤ c) → b <ℤ c
-lt_from_mul a b c h k = let e = *ℤ-distrib_sub a c b in let m : pos 0 <ℤ (a *ℤ (c -ℤ b)) = omega (arith, linear) in let d = pos_from_mul a (c -ℤ b) h m in omega (arith, linear)
+lt_from_mul a b c h k = let e = *ℤ-distrib_sub a c b in let m : pos 0 <ℤ (a *ℤ (c -ℤ b)) = omega (arith, linear) in
+    let d = pos_from_mul a (c -ℤ b) h m in omega (arith, linear)
 
 -- ---- the sign of a number, 1, 0 or -1, as `z.signum()` gives it
 

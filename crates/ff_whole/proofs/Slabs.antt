@@ -29,20 +29,24 @@ next_last : (n : ℕ) → next (suc n) n ≡ 0
 next_last n = grind (arith, nat_tests)
 
 height-same : (p : Pt) (m : Place) → height (through p p) m ≡ pos 0
-height-same p m = let p' = point_e 0 in let m' = place_e 2 in solve (point_env p (place_env m [])) (height_e (through_e p' p') m') (num (pos 0)) refl
+height-same p m = let p' = point_e 0 in let m' = place_e 2 in
+    solve (point_env p (place_env m [])) (height_e (through_e p' p') m') (num (pos 0)) refl
 
 -- the same, as the law of fans has it
 pub inside_fan : (n : ℕ) (v : ℕ → Pt) (m : Place) → pos 0 <ℤ m.w → 0 < n → IsInsideRing n v m
     → (k : ℕ) × (n ≡ suc (suc k)) × IsInside v k m
 inside_fan zero v m w some h = absurd (omega arith)
-inside_fan (suc zero) v m w some h = let a = h 0 (omega arith) in let z = height-same (v 0) m in absurd (omega (arith, linear))
+inside_fan (suc zero) v m w some h = let a = h 0 (omega arith) in let z = height-same (v 0) m in
+    absurd (omega (arith, linear))
 inside_fan (suc (suc k)) v m w some h = (
   k,
   refl,
   record {
     positive = w;
-    edges = λ i l. subst (λ j. pos 0 <ℤ height (through (v i) (v j)) m) (next_suc (suc (suc k)) i (omega arith)) (h i (omega arith));
-    closing = subst (λ j. pos 0 <ℤ height (through (v (suc k)) (v j)) m) (next_last (suc k)) (h (suc k) (omega arith));
+    edges =
+        λ i l. subst (λ j. pos 0 <ℤ height (through (v i) (v j)) m) (next_suc (suc (suc k)) i (omega arith)) (h i (omega arith));
+    closing =
+        subst (λ j. pos 0 <ℤ height (through (v (suc k)) (v j)) m) (next_last (suc k)) (h (suc k) (omega arith));
   },
 )
 
@@ -62,10 +66,12 @@ over_leftwards p m = let p' = point_e 0 in let m' = place_e 2 in
     solve (point_env p (place_env m [])) (height_e (record { a = opp m'.w; b = num (pos 0); c = opp m'.x }) (place_of_e p')) (m'.x ⊖ p'.x ⊗ m'.w) refl
 
 on_rightwards : (m : Place) → height (rightwards m) m ≡ pos 0
-on_rightwards m = let m' = place_e 0 in solve (place_env m []) (height_e (record { a = m'.w; b = num (pos 0); c = m'.x }) m') (num (pos 0)) refl
+on_rightwards m = let m' = place_e 0 in
+    solve (place_env m []) (height_e (record { a = m'.w; b = num (pos 0); c = m'.x }) m') (num (pos 0)) refl
 
 on_leftwards : (m : Place) → height (leftwards m) m ≡ pos 0
-on_leftwards m = let m' = place_e 0 in solve (place_env m []) (height_e (record { a = opp m'.w; b = num (pos 0); c = opp m'.x }) m') (num (pos 0)) refl
+on_leftwards m = let m' = place_e 0 in
+    solve (place_env m []) (height_e (record { a = opp m'.w; b = num (pos 0); c = opp m'.x }) m') (num (pos 0)) refl
 
 -- a place inside a ring is left of each line that all vertices are left of
 pub left-closed : (n : ℕ) (v : ℕ → Pt) (m : Place) → pos 0 <ℤ m.w → 0 < n → IsInsideRing n v m → (l : Line)
@@ -78,18 +84,24 @@ left-closed n v m w some h l all =
 -- not all vertices are right of a place inside, and not all are left of it
 pub some_left : (n : ℕ) (v : ℕ → Pt) (m : Place) → pos 0 <ℤ m.w → 0 < n → IsInsideRing n v m
     → (i : ℕ) × (i < n) × (pos 0 ≤ℤ after (v i) m)
-some_left n v m w some h = elim (search n (λ i. pos 0 ≤ℤ after (v i) m) (λ i. after (v i) m <ℤ pos 0) (λ i l. by_lt_z (after (v i) m) (pos 0) inr inl)) [
-  | inl r ↦ r
-  | inr all ↦ let z = on_rightwards m in let p = left-closed n v m w some h (rightwards m) (λ i l. let a = all i l in let e = over_rightwards (v i) m in omega (arith, linear)) in absurd (omega (arith, linear))
-]
+some_left n v m w some h =
+    elim (search n (λ i. pos 0 ≤ℤ after (v i) m) (λ i. after (v i) m <ℤ pos 0) (λ i l. by_lt_z (after (v i) m) (pos 0) inr inl)) [
+      | inl r ↦ r
+      | inr all ↦ let z = on_rightwards m in
+          let p = left-closed n v m w some h (rightwards m) (λ i l. let a = all i l in let e = over_rightwards (v i) m in omega (arith, linear)) in
+          absurd (omega (arith, linear))
+    ]
 
 -- nor are all vertices left of it
 pub some_right : (n : ℕ) (v : ℕ → Pt) (m : Place) → pos 0 <ℤ m.w → 0 < n → IsInsideRing n v m
     → (i : ℕ) × (i < n) × (after (v i) m ≤ℤ pos 0)
-some_right n v m w some h = elim (search n (λ i. after (v i) m ≤ℤ pos 0) (λ i. pos 0 <ℤ after (v i) m) (λ i l. by_lt_z (pos 0) (after (v i) m) inr inl)) [
-  | inl r ↦ r
-  | inr all ↦ let z = on_leftwards m in let p = left-closed n v m w some h (leftwards m) (λ i l. let a = all i l in let e = over_leftwards (v i) m in omega (arith, linear)) in absurd (omega (arith, linear))
-]
+some_right n v m w some h =
+    elim (search n (λ i. after (v i) m ≤ℤ pos 0) (λ i. pos 0 <ℤ after (v i) m) (λ i l. by_lt_z (pos 0) (after (v i) m) inr inl)) [
+      | inl r ↦ r
+      | inr all ↦ let z = on_leftwards m in
+          let p = left-closed n v m w some h (leftwards m) (λ i l. let a = all i l in let e = over_leftwards (v i) m in omega (arith, linear)) in
+          absurd (omega (arith, linear))
+    ]
 
 -- ---- going round from a number above 0 to one that isn't, some step goes down
 

@@ -16,7 +16,10 @@ total_place p (q ∷ qs) = combine (pos 1) p (pos 1) (total_place q qs)
 
 height-total : (l : Line) (p q : Place) (qs : List Place)
     → height l (total_place p (q ∷ qs)) ≡ height l p +ℤ height l (total_place q qs)
-height-total l p q qs = height-combine l (pos 1) p (pos 1) (total_place q qs) ∙ ap (λ z. z +ℤ pos 1 *ℤ height l (total_place q qs)) (one-*ℤ (height l p)) ∙ ap (λ z. height l p +ℤ z) (one-*ℤ (height l (total_place q qs)))
+height-total l p q qs =
+    height-combine l (pos 1) p (pos 1) (total_place q qs)
+    ∙ ap (λ z. z +ℤ pos 1 *ℤ height l (total_place q qs)) (one-*ℤ (height l p))
+    ∙ ap (λ z. height l p +ℤ z) (one-*ℤ (height l (total_place q qs)))
 
 -- right of no line that none of them is right of
 pub not_right-total : (l : Line) (p : Place) (qs : List Place) → All (λ q. pos 0 ≤ℤ height l q) (p ∷ qs)
@@ -36,7 +39,8 @@ first_or_later x xs y (suc k) lt e = inr (k, omega arith, e)
 -- and strictly left, where one of them is
 pub left-total : (l : Line) (p : Place) (qs : List Place) → All (λ q. pos 0 ≤ℤ height l q) (p ∷ qs) → (q : Place)
     → Contains (p ∷ qs) q → pos 0 <ℤ height l q → pos 0 <ℤ height l (total_place p qs)
-left-total l p [] h q has g = elim (first_or_later p [] q has.0 has.1 has.2) [ inl e ↦ subst (λ z. pos 0 <ℤ height l z) (sym e) g | inr none ↦ let lt = none.1 in absurd (omega arith) ]
+left-total l p [] h q has g =
+    elim (first_or_later p [] q has.0 has.1 has.2) [ inl e ↦ subst (λ z. pos 0 <ℤ height l z) (sym e) g | inr none ↦ let lt = none.1 in absurd (omega arith) ]
 left-total l p (r ∷ rs) h q has g =
     let a = All-head (λ q. pos 0 ≤ℤ height l q) p (r ∷ rs) h in
     let rest = All-tail (λ q. pos 0 ≤ℤ height l q) p (r ∷ rs) h in

@@ -11,11 +11,13 @@ use Rattle.ff_whole.specs.declared.points.Pt.{Pt}
 
 -- the cross product changes its sign where its directions change places
 pub cross-flip : (a b : Pt) → cross b a ≡ neg_ℤ (cross a b)
-cross-flip a b = let a' = point_e 0 in let b' = point_e 2 in solve (point_env a (point_env b [])) (cross_e b' a') (opp (cross_e a' b')) refl
+cross-flip a b = let a' = point_e 0 in let b' = point_e 2 in
+    solve (point_env a (point_env b [])) (cross_e b' a') (opp (cross_e a' b')) refl
 
 -- the dot product does not
 pub dot-flip : (a b : Pt) → dot b a ≡ dot a b
-dot-flip a b = let a' = point_e 0 in let b' = point_e 2 in solve (point_env a (point_env b [])) (dot_e b' a') (dot_e a' b') refl
+dot-flip a b = let a' = point_e 0 in let b' = point_e 2 in
+    solve (point_env a (point_env b [])) (dot_e b' a') (dot_e a' b') refl
 
 -- a direction is not left of itself
 pub cross-own : (a : Pt) → cross a a ≡ pos 0
@@ -23,7 +25,8 @@ cross-own a = let a' = point_e 0 in solve (point_env a []) (cross_e a' a') (num 
 
 -- from a point to itself
 pub cross-none : (u p : Pt) → cross u (minus p p) ≡ pos 0
-cross-none u p = let u' = point_e 0 in let p' = point_e 2 in solve (point_env u (point_env p [])) (cross_e u' (minus_e p' p')) (num (pos 0)) refl
+cross-none u p = let u' = point_e 0 in let p' = point_e 2 in
+    solve (point_env u (point_env p [])) (cross_e u' (minus_e p' p')) (num (pos 0)) refl
 
 -- from r to p, and on to q
 pub cross-step : (u p q r : Pt) → cross u (minus q r) ≡ cross u (minus p r) +ℤ cross u (minus q p)
@@ -100,7 +103,8 @@ parallel-cross u b w h =
 
 -- two directions that are parallel to a third have the product of their products with it
 pub parallel-dot : (u a b : Pt) → cross u a ≡ pos 0 → dot u u *ℤ dot a b ≡ dot u a *ℤ dot u b
-parallel-dot u a b h = let e = lagrange-dot u a b in let z = zero-mul (cross u a) (cross u b) h in omega (arith, linear)
+parallel-dot u a b h = let e = lagrange-dot u a b in let z = zero-mul (cross u a) (cross u b) h in
+    omega (arith, linear)
 
 -- what is neither along nor across u is 0
 pub nothing : (u b : Pt) → pos 0 <ℤ dot u u → cross u b ≡ pos 0 → dot u b ≡ pos 0 → (b.x ≡ pos 0) × (b.y ≡ pos 0)
