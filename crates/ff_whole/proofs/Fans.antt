@@ -3,7 +3,7 @@ use Rattle.std.proofs.Common.{ℕ, suc, ◌<◌, arith, pos, ◌<ℤ◌, ◌≤�
 use lib.IntN.{*ℤ_comm}
 use Rattle.ff_whole.proofs.Signs.{linear, pos_from_mul}
 use Rattle.ff_whole.proofs.Turns.{height-back}
-use Rattle.ff_whole.proofs.Triangles.{barycentric_w, not_right-triangle, left-triangle, sign_turns}
+use Rattle.ff_whole.proofs.Triangles.{heights-sum, not_right-triangle, left-triangle, sign_turns}
 use Rattle.ff_whole.specs.Points.{turn}
 use Rattle.ff_whole.specs.Places.{place_of, through, height}
 use Rattle.ff_whole.specs.declared.points.Pt.{Pt}
@@ -26,7 +26,7 @@ pub record InTriangle (p q r : Pt) (m : Place) : Type 0 where
 in_triangle : (p q r : Pt) (m : Place) → pos 0 <ℤ m.w → pos 0 <ℤ height (through p q) m
     → pos 0 <ℤ height (through q r) m → pos 0 ≤ℤ height (through r p) m → InTriangle p q r m
 in_triangle p q r m w a b c =
-    let e = barycentric_w p q r m in
+    let e = heights-sum p q r m in
     let k = *ℤ_comm (turn p q r) m.w in
     record { left = pos_from_mul m.w (turn p q r) w (omega (arith, linear)); first = a; second = b; third = c }
 

@@ -16,6 +16,7 @@ pub mod Moves
 pub mod Ratios
 pub mod Exits
 pub mod SharedPlaces
+pub mod Lowest
 pub mod Rises
 pub mod SegmentPoints
 pub mod SegmentSigns
@@ -26,7 +27,6 @@ pub mod OnEdges
 pub mod Between
 -- points
 pub mod Turns
-pub mod SegmentMeets
 pub mod Triangles
 pub mod Fans
 pub mod Images

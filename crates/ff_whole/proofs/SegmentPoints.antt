@@ -4,6 +4,7 @@ use lib.IntN.{neg_ℤ}
 use Rattle.ff_whole.proofs.Formulas.{point_e, point_env, minus_e, dot_e, cross_e, turn_e}
 use Rattle.ff_whole.proofs.Ring.{var, num, ◌⊕◌, ◌⊖◌, ◌⊗◌, opp, solve, solve_from}
 use Rattle.ff_whole.proofs.Signs.{linear, zero-mul}
+use Rattle.ff_whole.proofs.Turns.{turn-swap}
 use Rattle.ff_whole.proofs.OnEdges.{dot_nonneg}
 use Rattle.ff_whole.specs.Points.{minus, dot, cross, turn}
 use Rattle.ff_whole.specs.declared.points.Pt.{Pt}
@@ -78,12 +79,6 @@ swap_segments a b c d m = record {
 }
 
 -- ---- different sides
-
--- over the line the other way the turn has the other sign
-pub turn-back : (a b c : Pt) → turn b a c ≡ neg_ℤ (turn a b c)
-turn-back a b c =
-    let a' = point_e 0 in let b' = point_e 2 in let c' = point_e 4 in
-    solve (point_env a (point_env b (point_env c []))) (turn_e b' a' c') (opp (turn_e a' b' c')) refl
 
 -- the turns of the ends of one segment differ by as much as those of the other
 pub turn-sums : (a b c d : Pt) → turn c d a -ℤ turn c d b ≡ turn a b d -ℤ turn a b c
@@ -170,7 +165,7 @@ shared_from_crossing a b c d (inl (inl y, inl z)) = let e = turn-sums a b c d in
     let z0 = z.0 in let z1 = z.1 in absurd (omega (arith, linear))
 shared_from_crossing a b c d (inl (inl y, inr z)) = proper a b c d y.0 y.1 z.0 z.1
 shared_from_crossing a b c d (inl (inr y, inl z)) =
-    let e = turn-back c d a in let f = turn-back c d b in let z0 = z.0 in let z1 = z.1 in
+    let e = turn-swap c d a in let f = turn-swap c d b in let z0 = z.0 in let z1 = z.1 in
     swap_ends a b d c (proper a b d c y.1 y.0 (omega (arith, linear)) (omega (arith, linear)))
 shared_from_crossing a b c d (inl (inr y, inr z)) = let e = turn-sums a b c d in let y0 = y.0 in let y1 = y.1 in
     let z0 = z.0 in let z1 = z.1 in absurd (omega (arith, linear))

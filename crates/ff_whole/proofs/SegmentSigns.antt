@@ -5,8 +5,9 @@ use Rattle.std.proofs.lemmas.Int.{by_lt_z}
 use Rattle.ff_whole.proofs.Formulas.{point_e, point_env, minus_e, dot_e, cross_e, turn_e}
 use Rattle.ff_whole.proofs.Ring.{var, num, ◌⊕◌, ◌⊖◌, ◌⊗◌, opp, solve, solve_from}
 use Rattle.ff_whole.proofs.Signs.{linear, by_sign, pos-mul, neg-mul_pos, nonneg-mul, nonneg-mul_nonpos, zero-mul, pos_from_mul, neg_from_mul, zero_from_mul}
+use Rattle.ff_whole.proofs.Turns.{turn-swap}
 use Rattle.ff_whole.proofs.ThreeTerms.{cross-none, cross-own, cross-step, dot-flip, dot-step, parallel-both, parallel-dot, nothing}
-use Rattle.ff_whole.proofs.SegmentPoints.{IsWithin, AreCrossing, IsShared, swap_ends, swap_segments, turn-back, turn-sums, turn-from}
+use Rattle.ff_whole.proofs.SegmentPoints.{IsWithin, AreCrossing, IsShared, swap_ends, swap_segments, turn-sums, turn-from}
 use Rattle.ff_whole.specs.Points.{minus, dot, cross, turn}
 use Rattle.ff_whole.specs.declared.points.Pt.{Pt}
 
@@ -179,7 +180,7 @@ turned : (a b p : Pt) → IsWithin a b p → IsWithin b a p
 turned a b p m =
     let on = m.on in
     let apart = m.apart in
-    let e = turn-back a b p in
+    let e = turn-swap a b p in
     let f = dot-flip (minus a p) (minus b p) in
     record { on = omega (arith, linear); apart = omega (arith, linear) }
 

@@ -77,7 +77,8 @@ off_number u v n h e =
 -- on a segment whose ends aren't both on the line, few places are on it
 off_one : (l : Line) (s t : Place) → (height l s ≢ pos 0) ⊎ (height l t ≢ pos 0) → (n : ℕ)
     → nat_abs (height l t) < n → height l (moved n s t) ≢ pos 0
-off_one l s t h n k z = let r = off_number (height l s) (height l t) n k (sym (height-combine l (pos n) s (pos 1) t) ∙ z) in
+off_one l s t h n k z =
+    let r = off_number (height l s) (height l t) n k (sym (height-combine l (pos n) s (pos 1) t) ∙ z) in
     elim h [ inl f ↦ f r.0 | inr f ↦ f r.1 ]
 
 -- the segment from s to t is not on the line

@@ -10,32 +10,10 @@ use Rattle.ff_whole.specs.declared.points.Pt.{Pt}
 use Rattle.ff_whole.specs.declared.lines.Line.{Line}
 use Rattle.ff_whole.specs.declared.places.Place.{Place}
 
--- the triangle's turn times the place is the corners, each times the height over the opposite side
-abbrev pub corners_x : Pt → Pt → Pt → Place → ℤ
-corners_x p q r m = height (through q r) m *ℤ p.x +ℤ height (through r p) m *ℤ q.x +ℤ height (through p q) m *ℤ r.x
-
--- the same in y
-abbrev pub corners_y : Pt → Pt → Pt → Place → ℤ
-corners_y p q r m = height (through q r) m *ℤ p.y +ℤ height (through r p) m *ℤ q.y +ℤ height (through p q) m *ℤ r.y
-
--- it is the place in x
-pub barycentric_x : (p q r : Pt) (m : Place) → turn p q r *ℤ m.x ≡ corners_x p q r m
-barycentric_x p q r m =
-    let p' = point_e 0 in let q' = point_e 2 in let r' = point_e 4 in let m' = place_e 6 in
-    solve (point_env p (point_env q (point_env r (place_env m [])))) (turn_e p' q' r' ⊗ m'.x)
-    (height_e (through_e q' r') m' ⊗ p'.x ⊕ height_e (through_e r' p') m' ⊗ q'.x ⊕ height_e (through_e p' q') m' ⊗ r'.x) refl
-
--- and in y
-pub barycentric_y : (p q r : Pt) (m : Place) → turn p q r *ℤ m.y ≡ corners_y p q r m
-barycentric_y p q r m =
-    let p' = point_e 0 in let q' = point_e 2 in let r' = point_e 4 in let m' = place_e 6 in
-    solve (point_env p (point_env q (point_env r (place_env m [])))) (turn_e p' q' r' ⊗ m'.y)
-    (height_e (through_e q' r') m' ⊗ p'.y ⊕ height_e (through_e r' p') m' ⊗ q'.y ⊕ height_e (through_e p' q') m' ⊗ r'.y) refl
-
--- the heights over the sides add up to the turn
-pub barycentric_w : (p q r : Pt) (m : Place)
+-- the heights over the sides add up to the turn, times the denominator
+pub heights-sum : (p q r : Pt) (m : Place)
     → turn p q r *ℤ m.w ≡ height (through q r) m +ℤ height (through r p) m +ℤ height (through p q) m
-barycentric_w p q r m =
+heights-sum p q r m =
     let p' = point_e 0 in let q' = point_e 2 in let r' = point_e 4 in let m' = place_e 6 in
     solve (point_env p (point_env q (point_env r (place_env m [])))) (turn_e p' q' r' ⊗ m'.w)
     (height_e (through_e q' r') m' ⊕ height_e (through_e r' p') m' ⊕ height_e (through_e p' q') m') refl

@@ -1,8 +1,8 @@
 -- The turn of three points in all orders and over a fourth, and heights over the line through two points.
-use Rattle.std.proofs.Common.{◌≡◌, refl, pos, ◌+ℤ◌, ◌-ℤ◌, ◌*ℤ◌, []}
+use Rattle.std.proofs.Common.{◌≡◌, refl, ◌+ℤ◌, []}
 use lib.IntN.{neg_ℤ}
 use Rattle.ff_whole.proofs.Formulas.{point_e, point_env, turn_e, place_e, place_env, place_of_e, through_e, height_e}
-use Rattle.ff_whole.proofs.Ring.{num, ◌⊕◌, ◌⊖◌, ◌⊗◌, opp, solve}
+use Rattle.ff_whole.proofs.Ring.{◌⊕◌, opp, solve}
 use Rattle.ff_whole.specs.Points.{turn}
 use Rattle.ff_whole.specs.Places.{place_of, through, height}
 use Rattle.ff_whole.specs.declared.points.Pt.{Pt}
@@ -31,14 +31,6 @@ pub turn-split : (p q r s : Pt) → turn p q r ≡ turn p q s +ℤ turn q r s +�
 turn-split p q r s =
     let p' = point_e 0 in let q' = point_e 2 in let r' = point_e 4 in let s' = point_e 6 in
     solve (point_env p (point_env q (point_env r (point_env s [])))) (turn_e p' q' r') (turn_e p' q' s' ⊕ turn_e q' r' s' ⊕ turn_e r' p' s') refl
-
--- Grassmann and Plücker
-pub turn-exchange : (p q r s t : Pt)
-    → turn p q r *ℤ turn p s t -ℤ turn p q s *ℤ turn p r t +ℤ turn p q t *ℤ turn p r s ≡ pos 0
-turn-exchange p q r s t =
-    let p' = point_e 0 in let q' = point_e 2 in let r' = point_e 4 in let s' = point_e 6 in let t' = point_e 8 in
-    solve (point_env p (point_env q (point_env r (point_env s (point_env t [])))))
-    (turn_e p' q' r' ⊗ turn_e p' s' t' ⊖ turn_e p' q' s' ⊗ turn_e p' r' t' ⊕ turn_e p' q' t' ⊗ turn_e p' r' s') (num (pos 0)) refl
 
 -- over the line the other way the height has the other sign
 pub height-back : (p q : Pt) (m : Place) → height (through q p) m ≡ neg_ℤ (height (through p q) m)
