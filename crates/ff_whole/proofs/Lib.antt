@@ -13,6 +13,7 @@ pub mod Combinations
 pub mod Sums
 pub mod Shifts
 pub mod Moves
+pub mod Alongs
 pub mod Ratios
 pub mod Exits
 pub mod SharedPlaces

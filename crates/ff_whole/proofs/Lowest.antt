@@ -65,10 +65,13 @@ divides_other s t lowest same =
     let xy = g.greatest in
     let all = h.greatest in
     let one : h.divisor ≡ 1 = lowest h.divisor (dvd_trans h.divisor all.0 xy.0) (dvd_trans h.divisor all.0 xy.1) all.1 in
-    subst (λ k. n ∣ k) (mul-one m) (subst (λ k. n ∣ m * k) one h.divides)
+    at_one n m h.divisor one h.divides
   where
     flip : (a b : ℕ) → a * b ≡ b * a
     flip a b = omega arith
+
+    at_one : (n m d : ℕ) → d ≡ 1 → n ∣ m * d → n ∣ m
+    at_one n m d e h = subst (λ k. n ∣ k) (mul-one m) (subst (λ k. n ∣ m * k) e h)
 
 -- so two places in lowest terms that are the same point are one
 pub lowest_once : (s t : Place) → IsPlace s → IsPlace t → HasNoDivisor s → HasNoDivisor t → SamePlace s t → s ≡ t

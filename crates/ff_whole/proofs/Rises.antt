@@ -38,13 +38,14 @@ height-slant k l p =
     let k' = line_e 0 in let l' = line_e 3 in let p' = place_e 6 in
     solve (line_env k (line_env l (place_env p []))) (l'.b ⊗ height_e k' p' ⊖ k'.b ⊗ height_e l' p') (slant_e k' l' ⊗ p'.x ⊖ (k'.c ⊗ l'.b ⊖ l'.c ⊗ k'.b) ⊗ p'.w) refl
 
--- a place by two others on its line, in one dimension: each times how far the place is from the other one
-pub between-places : (l t p : Place)
-    → (t.x *ℤ p.w -ℤ p.x *ℤ t.w) *ℤ l.x +ℤ (p.x *ℤ l.w -ℤ l.x *ℤ p.w) *ℤ t.x ≡ (t.x *ℤ l.w -ℤ l.x *ℤ t.w) *ℤ p.x
-between-places l t p =
-    let l' = place_e 0 in let t' = place_e 3 in let p' = place_e 6 in
-    solve (place_env l (place_env t (place_env p [])))
-    ((t'.x ⊗ p'.w ⊖ p'.x ⊗ t'.w) ⊗ l'.x ⊕ (p'.x ⊗ l'.w ⊖ l'.x ⊗ p'.w) ⊗ t'.x) ((t'.x ⊗ l'.w ⊖ l'.x ⊗ t'.w) ⊗ p'.x) refl
+-- a functional without a y at a place, from its values at two others: each times how far the place is from the other one in x
+pub between-xs : (a c : ℤ) (l t p : Place) → (t.x *ℤ l.w -ℤ l.x *ℤ t.w) *ℤ (a *ℤ p.x -ℤ c *ℤ p.w)
+    ≡ (t.x *ℤ p.w -ℤ p.x *ℤ t.w) *ℤ (a *ℤ l.x -ℤ c *ℤ l.w) +ℤ (p.x *ℤ l.w -ℤ l.x *ℤ p.w) *ℤ (a *ℤ t.x -ℤ c *ℤ t.w)
+between-xs a c l t p =
+    let a' = var 0 in let c' = var 1 in let l' = place_e 2 in let t' = place_e 5 in let p' = place_e 8 in
+    solve (a ∷ c ∷ place_env l (place_env t (place_env p [])))
+    ((t'.x ⊗ l'.w ⊖ l'.x ⊗ t'.w) ⊗ (a' ⊗ p'.x ⊖ c' ⊗ p'.w))
+    ((t'.x ⊗ p'.w ⊖ p'.x ⊗ t'.w) ⊗ (a' ⊗ l'.x ⊖ c' ⊗ l'.w) ⊕ (p'.x ⊗ l'.w ⊖ l'.x ⊗ p'.w) ⊗ (a' ⊗ t'.x ⊖ c' ⊗ t'.w)) refl
 
 -- ---- the comparison
 
