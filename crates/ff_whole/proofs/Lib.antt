@@ -3,12 +3,19 @@ pub mod Laws
 pub mod Ring
 pub mod Signs
 pub mod Bounds
+pub mod Searches
+-- formulas and identities of points, lines and places
 pub mod Formulas
 pub mod ThreeTerms
+pub mod Turns
 pub mod Offsets
--- places and lines
+pub mod Rises
+-- the calls: places in lowest terms, and where lines meet
 pub mod Reducing
 pub mod LinesMeeting
+pub mod SharedPlaces
+pub mod Lowest
+-- places added up and moved
 pub mod Combinations
 pub mod Sums
 pub mod Shifts
@@ -16,29 +23,26 @@ pub mod Moves
 pub mod Alongs
 pub mod Ratios
 pub mod Exits
-pub mod SharedPlaces
-pub mod Lowest
-pub mod Rises
+-- segments and directions
+pub mod OnEdges
 pub mod SegmentPoints
 pub mod SegmentSigns
 pub mod SharedPoints
 pub mod CyclicOrder
-pub mod Searches
-pub mod OnEdges
-pub mod Between
--- points
-pub mod Turns
+pub mod Images
+-- rings
+pub mod ClosedLists
 pub mod Triangles
 pub mod Fans
-pub mod Images
--- convex rings in linear time
+pub mod Slabs
+pub mod Between
+pub mod ConvexBorders
+pub mod Corners
+pub mod Reversals
+pub mod Areas
+-- the test of a convex ring in linear time
 pub mod PointOrder
 pub mod Directions
 pub mod Ranks
-pub mod ClosedLists
-pub mod ConvexBorders
-pub mod Reversals
-pub mod Areas
-pub mod Slabs
 pub mod Turning
 pub mod ConvexRings
