@@ -1,5 +1,5 @@
 -- Rows that agree with what is known.
-use Rattle.std.proofs.Common.{◌≡◌, ℕ, zero, suc, ◌<◌, ◌⊎◌, ◌&&◌, Bool, true, false, List, map, length, sym, refl, ap, ◌∙◌, subst, inl, inr, arith, Option, Some, None}
+use Rattle.std.proofs.Common.{◌≡◌, ℕ, zero, suc, ◌<◌, ◌⊎◌, ◌↔◌, ◌&&◌, Bool, true, false, List, map, length, sym, refl, ap, ◌∙◌, subst, inl, inr, arith, Option, Some, None}
 use mathlib.Core.Logic.{dite}
 use native.Mathlib.Decide.{ℕ_discrete}
 use Rattle.ff_tables.specs.declared.orders.Order.{Order}
@@ -7,9 +7,9 @@ use Rattle.ff_tables.specs.declared.orders.Order.TheVariants.{Below, Above}
 use Rattle.ff_tables.specs.declared.terms.Kind.{Kind}
 use Rattle.ff_tables.specs.declared.terms.Term.{Term}
 use Rattle.ff_tables.specs.Orders.{turn, turned_option, is_order, fits, term_at, row_at}
-use Rattle.ff_tables.specs.Masks.{value_at, OnlyIs, OpenIs, bits, agrees_below}
+use Rattle.ff_tables.specs.Forces.{Forces, Agrees, known_at, agrees_below, Knows, SomeAgrees, NoneAgrees, Only, Can, Settled}
+use Rattle.ff_tables.specs.Masks.{OnlyIs, OpenIs, bits}
 use Rattle.ff_tables.specs.Rows.{rows_of}
-use Rattle.ff_tables.specs.Forces.{Knows, SomeAgrees, NoneAgrees, Only, Can, Settled}
 use Rattle.ff_tables.proofs.Bits.{true_false, bits-zero, bits-some}
 
 pub turn_turn : (b : Bool) (s : Order) → turn b (turn b s) ≡ s
@@ -56,7 +56,7 @@ pub fits_all : (ts : List Term) (f : ℕ → Option Order) (n : ℕ) (row : List
     → (j : ℕ) (b : Order) → j < n → Knows f (term_at ts j).var (turn (term_at ts j).flipped b) → row_at row j ≡ b
 fits_all ts f zero row h j b l k = absurd (omega arith)
 fits_all ts f (suc n) row h j b l k =
-    let p = and_true (agrees_below ts f n row) (fits (value_at ts f n) (row_at row n)) h in
+    let p = and_true (agrees_below ts f n row) (fits (known_at ts f n) (row_at row n)) h in
     elim (split j n l) [
       | inl e ↦ subst (λ z. Knows f (term_at ts z).var (turn (term_at ts z).flipped b) → row_at row z ≡ b) (sym e)
           (λ q. fit_is (term_at ts n).flipped (f (term_at ts n).var) b (row_at row n) q p.1) k
@@ -69,7 +69,7 @@ fits_all ts f (suc n) row h j b l k =
 pub all_fit : (ts : List Term) (f : ℕ → Option Order) (n : ℕ) (row : List Order)
     → ((j : ℕ) (b : Order) → j < n → Knows f (term_at ts j).var (turn (term_at ts j).flipped b) → row_at row j ≡ b) → agrees_below ts f n row ≡ true
 all_fit ts f zero row h = refl
-all_fit ts f (suc n) row h = true_and (agrees_below ts f n row) (fits (value_at ts f n) (row_at row n))
+all_fit ts f (suc n) row h = true_and (agrees_below ts f n row) (fits (known_at ts f n) (row_at row n))
     (all_fit ts f n row (λ j b l. h j b (omega arith)))
     (is_fit (term_at ts n).flipped (f (term_at ts n).var) (row_at row n) (λ b. h n b (omega arith)))
 
@@ -95,3 +95,12 @@ can_rows kind ts f p h = (
 pub settles : (kind : Kind) (ts : List Term) (f : ℕ → Option Order) (p : ℕ) → OpenIs kind (agrees_below ts f (length ts)) p (f (term_at ts p).var) None → Settled kind ts f p
 settles kind ts f p (inl k) = inl k
 settles kind ts f p (inr k) = inr (can_rows kind ts f p k)
+
+-- what is forced from less that is known of the terms is forced from more
+pub forces_more : (kind : Kind) (ts : List Term) (less more : ℕ → Order → Type 0) (v : ℕ) (s : Order)
+    → ((j : ℕ) (t : Order) → j < length ts → less (term_at ts j).var t → more (term_at ts j).var t) → Forces kind ts less v s → Forces kind ts more v s
+forces_more kind ts less more v s up f = (f.0, f.1, f.2, λ k row at a. f.3 k row at (λ j b l q. a j b l (up j _ l q)))
+
+-- the test of a row says what the relation says
+pub agrees_tested : (ts : List Term) (f : ℕ → Option Order) (row : List Order) → (agrees_below ts f (length ts) row ≡ true) ↔ Agrees ts (Knows f) row
+agrees_tested ts f row = (fits_all ts f (length ts) row, all_fit ts f (length ts) row)

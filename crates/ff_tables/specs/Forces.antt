@@ -1,6 +1,6 @@
 -- What a constraint forces from what is known of variables. `known v s` says that the variable v is known to have the value s:
 -- a relation, so that more that is known leaves fewer rows, and each user says what knowing means.
-use Rattle.std.specs.Prelude.{◌≡◌, ℕ, ◌<◌, ◌⊎◌, List, length, slice_get, Option, Some, None}
+use Rattle.std.specs.Prelude.{◌≡◌, ℕ, zero, suc, ◌<◌, ◌⊎◌, ◌&&◌, Bool, true, List, length, slice_get, Option, Some, None}
 use Rattle.ff_tables.specs.declared.orders.Order.{Order}
 use Rattle.ff_tables.specs.declared.orders.Order.TheVariants.{Below, Above}
 use Rattle.ff_tables.specs.declared.terms.Kind.{Kind}
@@ -8,7 +8,7 @@ use Rattle.ff_tables.specs.declared.terms.Term.{Term}
 use Rattle.ff_tables.specs.declared.terms.Constraint.{Constraint}
 use Rattle.ff_tables.specs.declared.known.Forced.{Forced}
 use Rattle.ff_tables.specs.declared.known.Forced.TheVariants.{Nothing, Value, Dead}
-use Rattle.ff_tables.specs.Orders.{turn, term_at, row_at}
+use Rattle.ff_tables.specs.Orders.{turn, turned_option, fits, term_at, row_at}
 use Rattle.ff_tables.specs.Rows.{HasRow}
 
 -- the row agrees: it has each value that is known of a term. Where both values are known of a term no row agrees.
@@ -38,6 +38,15 @@ Forces kind ts known v s = (p : ℕ) × (p < length ts) × ((term_at ts p).var �
 -- what a function on variables knows
 abbrev pub Knows : (ℕ → Option Order) → ℕ → Order → Type 0
 Knows f v s = f v ≡ Some s
+
+-- what is known of the term j
+abbrev pub known_at : List Term → (ℕ → Option Order) → ℕ → Option Order
+known_at ts f j = turned_option (term_at ts j).flipped (f (term_at ts j).var)
+
+-- the same as a test of what a function knows: the row has what is known of each of the first n terms
+abbrev pub agrees_below : List Term → (ℕ → Option Order) → ℕ → List Order → Bool
+agrees_below ts f zero row = true
+agrees_below ts f (suc j) row = agrees_below ts f j row && fits (known_at ts f j) (row_at row j)
 
 -- the term's variable is known, or the term can have both values
 abbrev pub Settled : Kind → List Term → (ℕ → Option Order) → ℕ → Type 0

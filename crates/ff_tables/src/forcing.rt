@@ -3,8 +3,8 @@ ghost use Rattle.std.specs.Prelude.{◌≡◌, ℕ, ◌<◌, ◌≤◌, length, 
 ghost use Rattle.ff_tables.specs.declared.orders.Order.{Order as OrderSpec};
 ghost use Rattle.ff_tables.specs.Orders.{term_at};
 ghost use Rattle.ff_tables.specs.Rows.{rows_of, arity};
-ghost use Rattle.ff_tables.specs.Masks.{bits, agrees_below};
-ghost use Rattle.ff_tables.specs.Forces.{ForcedIs, SettlesBelow};
+ghost use Rattle.ff_tables.specs.Masks.{bits};
+ghost use Rattle.ff_tables.specs.Forces.{agrees_below, ForcedIs, SettlesBelow};
 
 use crate::known::{Forced, Known};
 use crate::masks::{all_rows, narrowed, open_value};

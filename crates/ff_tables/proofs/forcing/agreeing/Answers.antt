@@ -2,7 +2,8 @@ use Rattle.std.proofs.Common.{◌≡◌, ℕ, suc, ◌&&◌, Bool, map, List, ad
 use Rattle.ff_tables.specs.declared.orders.Order.{Order}
 use Rattle.ff_tables.specs.Orders.{term_at, fits, turned_option, row_at}
 use Rattle.ff_tables.specs.Rows.{rows_of}
-use Rattle.ff_tables.specs.Masks.{bits, agrees_below}
+use Rattle.ff_tables.specs.Masks.{bits}
+use Rattle.ff_tables.specs.Forces.{agrees_below}
 use Rattle.ff_tables.proofs.forcing.agreeing.Goals as goal
 
 pub loop-j-preserved : goal.loop-j-preserved

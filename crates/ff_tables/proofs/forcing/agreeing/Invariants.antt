@@ -1,6 +1,7 @@
 use Rattle.std.proofs.Common.{◌≡◌, map}
 use Rattle.ff_tables.specs.Rows.{rows_of}
-use Rattle.ff_tables.specs.Masks.{bits, agrees_below}
+use Rattle.ff_tables.specs.Masks.{bits}
+use Rattle.ff_tables.specs.Forces.{agrees_below}
 use Rattle.ff_tables.proofs.forcing.agreeing.Given as goal
 
 abbrev pub invariant-loop-j : goal.invariant-loop-j

@@ -2,8 +2,8 @@ use Rattle.std.proofs.Common.{◌≡◌, ℕ, length, ◌∙◌, ap, sym, subst,
 use borrow.Author.Count.{below_more}
 use Rattle.ff_tables.specs.declared.orders.Order.{Order}
 use Rattle.ff_tables.specs.Orders.{term_at, turn}
-use Rattle.ff_tables.specs.Masks.{OpenIs, agrees_below}
-use Rattle.ff_tables.specs.Forces.{Only, Knows}
+use Rattle.ff_tables.specs.Masks.{OpenIs}
+use Rattle.ff_tables.specs.Forces.{agrees_below, Only, Knows}
 use Rattle.ff_tables.proofs.Agreeing.{settles, some_rows, only_rows, turn_turn}
 use Rattle.ff_tables.proofs.forcing.first_forced.Goals as goal
 

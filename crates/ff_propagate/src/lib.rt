@@ -1,0 +1,17 @@
+//! Facts that constraints force from givens, and the parts that are left undecided.
+#![tactic(auto)]
+
+mod chains;
+mod closing;
+mod draining;
+mod facts;
+mod giving;
+mod levels;
+mod parts;
+mod passing;
+mod work;
+
+pub use chains::Chains;
+pub use closing::{close, givens_fit};
+pub use facts::{ClashAt, Closed, Fact, Facts, Reason};
+pub use parts::Part;
