@@ -26,7 +26,8 @@ some_none : {h : Fact} {o : Option Fact} → o ≡ None → o ≡ Some h → ⊥
 some_none p q = cc
 
 pub starts : (vars : ℕ) (cons : List Constraint) (gs : List Given) (w : Work) → vars < 2 ^ 32
-    → (w.values.list.items ≡ replicate vars None) × (w.facts.items ≡ replicate vars None) × (w.trail.items ≡ replicate vars 0) × (w.count ≡ 0) → Starts vars cons gs w
+    → (w.values.list.items ≡ replicate vars None) × (w.facts.items ≡ replicate vars None)
+    × (w.trail.items ≡ replicate vars 0) × (w.count ≡ 0) → Starts vars cons gs w
 starts vars cons gs w few (values, facts, trail, count) =
     let none : (v : ℕ) → fact_at w.facts.items v ≡ None = λ v. ap (λ fs. fact_at fs v) facts ∙ none_at vars v in
     record {
@@ -44,7 +45,8 @@ starts vars cons gs w few (values, facts, trail, count) =
       none = none;
     }
 
-pub gives_none : (vars : ℕ) (cons : List Constraint) (gs : List Given) (w : Work) → Starts vars cons gs w → HasGivens gs 0 w
+pub gives_none : (vars : ℕ) (cons : List Constraint) (gs : List Given) (w : Work) → Starts vars cons gs w
+    → HasGivens gs 0 w
 gives_none vars cons gs w s = record {
   all = λ i g l is. absurd (omega (arith, l));
   by = λ v h at. absurd (some_none (s.none v) at);

@@ -11,7 +11,8 @@ use Rattle.ff_propagate.specs.FactRule.{MeetsFactRule, StandsBy}
 
 -- facts that meet the rule are in the closure of their givens
 abbrev pub FactsAreInside : Type 0
-FactsAreInside = (vars : ℕ) (cons : List Constraint) (gs : List Given) (fs : List (Option Fact)) → MeetsFactRule vars cons gs fs
+FactsAreInside = (vars : ℕ) (cons : List Constraint) (gs : List Given) (fs : List (Option Fact))
+    → MeetsFactRule vars cons gs fs
     → (v : ℕ) (h : Fact) → fact_at fs v ≡ Some h → InClosure cons (Gives gs) v h.value
 
 -- the list has at least the facts of the other
