@@ -1,5 +1,5 @@
 -- What holds of the facts so far, while a closure is made.
-use Rattle.std.specs.Prelude.{◌≡◌, ℕ, suc, ◌+◌, ◌<◌, ◌≤◌, ◌^◌, ◌⊎◌, List, [], ◌∷◌, map, length, slice_get, slice_index, slice_index_or, slice_set, Option, Some, None}
+use Rattle.std.specs.Prelude.{◌≡◌, ℕ, suc, ◌+◌, ◌<◌, ◌≤◌, ◌^◌, ◌⊎◌, List, [], ◌∷◌, map, length, replicate, slice_get, slice_index, slice_index_or, slice_set, Option, Some, None}
 use Rattle.ff_tables.specs.declared.orders.Order.{Order}
 use Rattle.ff_tables.specs.declared.terms.Term.{Term}
 use Rattle.ff_tables.specs.declared.terms.Constraint.{Constraint}
@@ -53,6 +53,13 @@ pub record Extends (old new : Work) : Type 0 where
   pub changed : (v : ℕ) → (known_of new v ≡ known_of old v)
       ⊎ ((i : ℕ) × (old.count ≤ i) × (i < new.count) × (slice_index new.trail.items i ≡ v))
   pub facts : (v : ℕ) (h : Fact) → fact_at old.facts.items v ≡ Some h → fact_at new.facts.items v ≡ Some h
+
+-- nothing is known of the variables below vars
+pub record IsUnset (vars : ℕ) (w : Work) : Type 0 where
+  pub values : w.values.list.items ≡ replicate vars None
+  pub facts : w.facts.items ≡ replicate vars None
+  pub trail : w.trail.items ≡ replicate vars 0
+  pub count : w.count ≡ 0
 
 -- the variable v gets the fact h
 pub record IsSet (old : Work) (v : ℕ) (h : Fact) (new : Work) : Type 0 where
