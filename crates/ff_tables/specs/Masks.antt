@@ -1,11 +1,10 @@
 -- Sets of rows as bits, which the code has in place of the lists of rows.
-use Rattle.std.specs.Prelude.{◌≡◌, ℕ, zero, suc, ◌+◌, ◌*◌, ◌⊎◌, ◌&&◌, Bool, true, List, [], ◌∷◌, map, Option, Some, None, if◌then◌else◌}
+use Rattle.std.specs.Prelude.{◌≡◌, ℕ, ◌+◌, ◌*◌, ◌⊎◌, Bool, true, List, [], ◌∷◌, map, Option, Some, None, if◌then◌else◌}
 use Rattle.ff_tables.specs.declared.orders.Order.{Order}
 use Rattle.ff_tables.specs.declared.orders.Order.TheVariants.{Below, Above}
 use Rattle.ff_tables.specs.declared.terms.Kind.{Kind}
 use Rattle.ff_tables.specs.declared.terms.Kind.TheVariants.{TacoTaco, TacoTortilla, TortillaTortilla, Transitivity}
-use Rattle.ff_tables.specs.declared.terms.Term.{Term}
-use Rattle.ff_tables.specs.Orders.{turned_option, is_order, fits, term_at, row_at}
+use Rattle.ff_tables.specs.Orders.{is_order, row_at}
 use Rattle.ff_tables.specs.Rows.{rows_of, HasRow}
 
 -- where the masks of the kind begin in the table
@@ -15,6 +14,11 @@ base TacoTortilla = 18
 base TortillaTortilla = 18
 base Transitivity = 12
 
+-- which of the two masks of a term
+abbrev pub side_of : Order → ℕ
+side_of Below = 0
+side_of Above = 1
+
 -- the tests as bits, the first lowest
 unfoldable pub bits : List Bool → ℕ
 bits [] = 0
@@ -23,15 +27,6 @@ bits (b ∷ bs) = bits bs * 2 + (if b then 1 else 0)
 -- the rows that have the value b at the term j
 abbrev pub mask_of : Kind → ℕ → Order → ℕ
 mask_of kind j b = bits (map (λ row. is_order b (row_at row j)) (rows_of kind))
-
--- what is known of the term j
-abbrev pub value_at : List Term → (ℕ → Option Order) → ℕ → Option Order
-value_at ts f j = turned_option (term_at ts j).flipped (f (term_at ts j).var)
-
--- whether the row has what is known of each of the first n terms
-abbrev pub agrees_below : List Term → (ℕ → Option Order) → ℕ → List Order → Bool
-agrees_below ts f zero row = true
-agrees_below ts f (suc j) row = agrees_below ts f j row && fits (value_at ts f j) (row_at row j)
 
 -- some row for which g holds has the value b at the term j
 abbrev pub SomeHas : Kind → (List Order → Bool) → ℕ → Order → Type 0
