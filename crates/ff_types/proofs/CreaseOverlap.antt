@@ -1,5 +1,5 @@
 -- A convex ring folded along a crease: its two faces overlap.
-use Rattle.std.proofs.Common.{◌≡◌, ◌≢◌, ℕ, ◌<◌, ◌≤◌, ◌⊎◌, inl, inr, refl, sym, ◌∙◌, ap, subst, arith, ℤ, pos, ◌+ℤ◌, ◌*ℤ◌, ◌<ℤ◌, ◌≤ℤ◌, Bool, true, false, not, List, [], ◌∷◌, length}
+use Rattle.std.proofs.Common.{◌≡◌, ◌≢◌, ℕ, ◌+◌, ◌<◌, ◌≤◌, ◌⊎◌, inl, inr, refl, sym, ◌∙◌, ap, subst, arith, ℤ, pos, ◌+ℤ◌, ◌*ℤ◌, ◌<ℤ◌, ◌≤ℤ◌, Bool, true, false, not, ◌&&◌, IsTrue, List, [], ◌∷◌, length}
 use Rattle.std.proofs.lemmas.Bool.{false≢true}
 use Rattle.std.proofs.lemmas.List.{length-map}
 use Rattle.std.specs.Prelude.{neg_ℤ}
@@ -18,12 +18,13 @@ use Rattle.ff_types.specs.Rings.{corner, corners, Goes}
 use Rattle.ff_types.specs.Faces.{ring_at}
 use Rattle.ff_types.specs.Foldings.{signed, RingKeepsShape}
 use Rattle.ff_types.specs.Sheets.{Sheet, lies_up}
-use Rattle.ff_types.specs.Inside.{depth, Overlap}
+use Rattle.ff_types.specs.Inside.{is_inside, depth, Overlap}
 use Rattle.ff_types.proofs.ConvexEdges.{turn-last, turn_cycled, turn_swapped}
 use Rattle.ff_types.proofs.SubRings.{corner_point}
 use Rattle.ff_types.proofs.CutRings.{inner, outer, inner_goes, inner_closes, inner_steps, outer_crosses, outer_steps}
 use Rattle.ff_types.proofs.OneCrease.{IsChord}
-use Rattle.ff_types.proofs.FoldedOverlap.{Good, overlap_near}
+use Rattle.ff_types.proofs.FoldedOverlap.{Good, overlap_near, inside_step}
+use Rattle.ff_types.proofs.Computing.{both}
 
 height_point : (p q r : Pt) → height (through p q) (place_of r) ≡ turn p q r
 height_point p q r = solve (p.x ∷ p.y ∷ q.x ∷ q.y ∷ r.x ∷ r.y ∷ [])
@@ -201,3 +202,22 @@ module _ (points : List Pt) (ring : IsConvex points) (i j : ℕ) (chord : IsChor
     by : (m : ℕ) × (i < m) × (m < j) × (turn (R i) (R j) (R m) <ℤ pos 0) → Overlap g f h
     by (m, im, mj, right) = overlap_near g f h (middle (P i) (P j)) (place_of (P m)) d fl hl (omega (arith, ints)) (omega (arith, ints))
         (λ x y s. inner_good m im mj right x y (subst (λ r. Goes r x y) f_ring s)) (λ x y s. outer_good m im mj right x y (subst (λ r. Goes r x y) h_ring s))
+
+-- The two faces of a sheet with one flat crease don't overlap: they lie on the two sides of it.
+pub flat_crease_apart : (n i j : ℕ) → i + 1 < j → j < n → (g : Sheet) (f h : ℕ) → ring_at g.rings f ≡ inner i j → ring_at g.rings h ≡ outer n i j → lies_up g h ≡ lies_up g f → Overlap g f h → ⊥
+flat_crease_apart n i j far low g f h fr hr same o = by o.common.at (both (is_inside g f o.common.at) _ o.common.inside) where
+  by : (s : Place) → IsTrue (is_inside g f s) × IsTrue (is_inside g h s && true) → ⊥
+  by s t =
+      let a = inside_step g f s j i t.0 (subst (λ r. Goes r j i) (sym fr) (inner_closes n i j far low)) in
+      let b = inside_step g h s i j (both (is_inside g h s) true t.1).0 (subst (λ r. Goes r i j) (sym hr) (outer_crosses n i j far low)) in
+      opposite (lies_up g f) (lies_up g h) (height (through (point_at g.images j) (point_at g.images i)) s) (height (through (point_at g.images i) (point_at g.images j)) s) same (turned (point_at g.images i) (point_at g.images j) s) a b where
+        turned : (p q : Pt) (s : Place) → height (through q p) s ≡ neg_ℤ (height (through p q) s)
+        turned p q s = solve (p.x ∷ p.y ∷ q.x ∷ q.y ∷ s.x ∷ s.y ∷ s.w ∷ [])
+            (((var 3 ⊖ var 1) ⊗ var 4 ⊕ (var 0 ⊖ var 2) ⊗ var 5) ⊖ ((var 3 ⊖ var 1) ⊗ var 2 ⊕ (var 0 ⊖ var 2) ⊗ var 3) ⊗ var 6)
+            (opp (((var 1 ⊖ var 3) ⊗ var 4 ⊕ (var 2 ⊖ var 0) ⊗ var 5) ⊖ ((var 1 ⊖ var 3) ⊗ var 0 ⊕ (var 2 ⊖ var 0) ⊗ var 1) ⊗ var 6)) refl
+
+        opposite : (b c : Bool) (x y : ℤ) → c ≡ b → x ≡ neg_ℤ y → pos 0 <ℤ signed b x → pos 0 <ℤ signed c y → ⊥
+        opposite true true x y e f p q = omega (arith, linear)
+        opposite false false x y e f p q = omega (arith, linear)
+        opposite true false x y e f p q = false≢true e
+        opposite false true x y e f p q = false≢true (sym e)

@@ -1,6 +1,6 @@
 -- Two folded faces on one side of a common edge overlap: near the middle of the edge, a step inwards is inside both.
-use Rattle.std.proofs.Common.{◌≡◌, ◌≢◌, ℕ, suc, ◌+◌, ◌<◌, ◌≤◌, ◌⊎◌, inl, inr, refl, sym, ◌∙◌, ap, subst, arith, ℤ, pos, negsuc, ◌+ℤ◌, ◌-ℤ◌, ◌*ℤ◌, ◌<ℤ◌, ◌≤ℤ◌, Bool, true, false, ◌&&◌, IsTrue, List, [], ◌∷◌, length}
-use Rattle.std.specs.Prelude.{int_lt, T}
+use Rattle.std.proofs.Common.{◌≡◌, ◌≢◌, ℕ, zero, suc, ◌+◌, ◌<◌, ◌≤◌, ◌⊎◌, inl, inr, refl, sym, ◌∙◌, ap, subst, arith, ℤ, pos, negsuc, ◌+ℤ◌, ◌-ℤ◌, ◌*ℤ◌, ◌<ℤ◌, ◌≤ℤ◌, Bool, true, false, ◌&&◌, IsTrue, List, [], ◌∷◌, length}
+use Rattle.std.specs.Prelude.{int_lt, T, if◌then◌else◌, nat_lt}
 use Rattle.std.specs.List.{list_all, Contains}
 use Rattle.std.proofs.lemmas.Int.{ints}
 use Rattle.ff_whole.specs.declared.places.Place.{Place}
@@ -11,13 +11,14 @@ use Rattle.ff_whole.proofs.Ring.{var, num, ◌⊕◌, ◌⊖◌, ◌⊗◌, opp,
 use Rattle.ff_whole.proofs.Signs.{linear, pos-mul, nonneg-mul, *ℤ-distrib_sub}
 use Rattle.ff_whole.proofs.Laws.{one-*ℤ}
 use lib.IntN.{*ℤ_comm, *ℤ-zero}
-use Rattle.std.proofs.lemmas.Bool.{cases_lt, lt-ltb}
+use Rattle.std.proofs.lemmas.Bool.{cases_lt, lt-ltb, le-ltb}
+use Rattle.ff_types.proofs.Computing.{both}
 use Rattle.std.proofs.lemmas.Bool.Decides.{nat_tests}
-use Rattle.ff_types.specs.Rings.{corner, Goes}
+use Rattle.ff_types.specs.Rings.{corner, after, Goes}
 use Rattle.ff_types.specs.Faces.{ring_at}
 use Rattle.ff_types.specs.Foldings.{signed}
-use Rattle.ff_types.specs.Sheets.{Sheet, lies_up}
-use Rattle.ff_types.specs.Inside.{steps, steps_from, depth, Overlap}
+use Rattle.ff_types.specs.Sheets.{is_face, Sheet, lies_up}
+use Rattle.ff_types.specs.Inside.{is_inside, steps, steps_from, depth, Overlap}
 use Rattle.ff_types.proofs.Memberships.{by_member, no_member, first_member, later_member}
 
 -- ---- depths are linear
@@ -107,3 +108,41 @@ overlap_near g f h m v d fl hl mp vp p q = by (all_far g f m v (steps (ring_at g
       inside = and_true _ _ (and_true _ _ (lt-ltb f (length g.rings) fl) (x (a + b) (omega arith))) (and_true _ _ (and_true _ _ (lt-ltb h (length g.rings) hl) (y (a + b) (omega arith))) refl);
     };
   }
+
+-- ---- what a place inside a face says of each step
+
+member_step : (first u : ℕ) (rest : List ℕ) (k : ℕ) → k < length (u ∷ rest) → Contains (steps_from first u rest) (corner (u ∷ rest) k, (if nat_lt (k + 1) (length (u ∷ rest)) then corner (u ∷ rest) (k + 1) else first))
+member_step first u [] zero h = first_member (u, first) [] (u, first) refl
+member_step first u [] (suc k) h = absurd (omega (arith, h))
+member_step first u (v ∷ rest) zero h = first_member (u, v) (steps_from first v rest) (u, (if nat_lt 1 (length (u ∷ v ∷ rest)) then v else first)) (ap (λ x. (u, x)) (rw (lt-ltb 1 (length (u ∷ v ∷ rest)) (omega arith)) refl))
+member_step first u (v ∷ rest) (suc k) h = later_member (u, v) (steps_from first v rest) _ (subst (λ x. Contains (steps_from first v rest) (corner (v ∷ rest) k, x)) same (member_step first v rest k (omega (arith, h)))) where
+  same : (if nat_lt (k + 1) (length (v ∷ rest)) then corner (v ∷ rest) (k + 1) else first) ≡ (if nat_lt (suc k + 1) (length (u ∷ v ∷ rest)) then corner (u ∷ v ∷ rest) (suc k + 1) else first)
+  same = elim (cases_lt (k + 1) (length (v ∷ rest))) [
+    | inl l ↦ rw (lt-ltb (k + 1) (length (v ∷ rest)) l, lt-ltb (suc k + 1) (length (u ∷ v ∷ rest)) (omega (arith, l))) (ap (λ x. corner (u ∷ v ∷ rest) x) (shift k))
+    | inr l ↦ rw (le-ltb (k + 1) (length (v ∷ rest)) l, le-ltb (suc k + 1) (length (u ∷ v ∷ rest)) (omega (arith, l))) refl
+  ] where
+    shift : (k : ℕ) → suc (k + 1) ≡ suc k + 1
+    shift k = omega arith
+
+pub goes_step : (list : List ℕ) (x y : ℕ) → Goes list x y → Contains (steps list) (x, y)
+goes_step [] x y s = absurd (omega (arith, s.inside))
+goes_step (u ∷ rest) x y s = subst (λ z. Contains (steps (u ∷ rest)) z) (pair s.from (last ∙ s.to)) (member_step u u rest s.place s.inside) where
+  last : (if nat_lt (s.place + 1) (length (u ∷ rest)) then corner (u ∷ rest) (s.place + 1) else u) ≡ after (u ∷ rest) s.place
+  last = elim (cases_lt (s.place + 1) (length (u ∷ rest))) [
+    | inl l ↦ rw (lt-ltb (s.place + 1) (length (u ∷ rest)) l) refl
+    | inr l ↦ rw (le-ltb (s.place + 1) (length (u ∷ rest)) l) refl
+  ]
+
+  pair : {a b c d : ℕ} → a ≡ c → b ≡ d → ◌≡◌ {A = ℕ × ℕ} (a, b) (c, d)
+  pair {a} {b} {c} {d} e f = ap (λ z. (z, b)) e ∙ ap (λ z. (c, z)) f
+
+all_of : {A : Type 0} (p : A → Bool) (l : List A) → IsTrue (list_all p l) → (x : A) → Contains l x → IsTrue (p x)
+all_of p [] t x c = absurd (no_member x c)
+all_of p (y ∷ l) t x c = by_member y l x (λ e. subst (λ z. IsTrue (p z)) e (both (p y) (list_all p l) t).0) (λ n. all_of p l (both (p y) (list_all p l) t).1 x n) c
+
+to_test : (z : ℤ) → IsTrue (int_lt (pos 0) z) → pos 0 <ℤ z
+to_test z t = omega (arith, ints, t)
+
+-- A place inside a face lies on the inner side of each of its steps.
+pub inside_step : (g : Sheet) (f : ℕ) (s : Place) (x y : ℕ) → IsTrue (is_inside g f s) → Goes (ring_at g.rings f) x y → pos 0 <ℤ depth g f s (x, y)
+inside_step g f s x y t e = to_test (depth g f s (x, y)) (all_of (λ step. int_lt (pos 0) (depth g f s step)) (steps (ring_at g.rings f)) (both (is_face g f) _ t).1 (x, y) (goes_step (ring_at g.rings f) x y e))
