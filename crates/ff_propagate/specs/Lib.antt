@@ -1,0 +1,13 @@
+pub mod Facts
+pub mod Closure
+pub mod FactRule
+pub mod RuleLaws
+pub mod Closing
+pub mod Parts
+pub mod Solutions
+pub mod Trees
+pub mod Choices
+pub mod Chained
+pub mod Stands
+pub mod Ends
+pub mod Giving

@@ -1,0 +1,7 @@
+pub mod Orders
+pub mod Rows
+pub mod Listed
+pub mod Masks
+pub mod Forces
+pub mod Systems
+pub mod Fitting
