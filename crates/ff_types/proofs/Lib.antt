@@ -1,0 +1,27 @@
+pub mod SortedPairs
+pub mod Members
+pub mod Named
+pub mod Computing
+pub mod ComputedDrawings
+pub mod ComputedFaces
+pub mod ComputedFoldings
+mod DrawingTests
+mod FaceTests
+mod FoldingTests
+mod SheetTests
+mod CiteTests
+mod PlacingTests
+pub mod Memberships
+pub mod TwoFaces
+pub mod FewFaces
+pub mod StackingTests
+mod CaseTests
+mod DegenerateTests
+pub mod PairOrder
+pub mod Starts
+pub mod ConvexEdges
+pub mod PlainSheets
+pub mod SubRings
+pub mod OneCrease
+pub mod CutRings
+pub mod CreaseFaces
