@@ -48,3 +48,13 @@ walk-to n s i h l =
     let below : k < n = grind (arith, nat_tests) in
     let e : place n s k ≡ i = grind (arith, nat_tests) in
     (k, below, walk-place n s k h (omega arith) ∙ e)
+
+-- the place before i
+abbrev pub prev : ℕ → ℕ → ℕ
+prev n i = if nat_lt 0 i then i - 1 else n - 1
+
+pub prev-below : (n i : ℕ) → i < n → prev n i < n
+prev-below n i h = grind (arith, nat_tests)
+
+pub next-prev : (n i : ℕ) → i < n → next n (prev n i) ≡ i
+next-prev n i h = grind (arith, nat_tests)

@@ -29,10 +29,13 @@ size a q d h = ap unsigned_abs h ∙ unsigned_abs-mul (pos d) q
 positive_size : (w : ℤ) → pos 0 <ℤ w → 0 < unsigned_abs w
 positive_size w h = omega (arith, ints)
 
+-- the common divisor with a positive number is positive
 pub divisor_positive : (w : ℤ) (g d : ℕ) → pos 0 <ℤ w → IsGcd g (unsigned_abs w) d → 0 < d
 divisor_positive w g d h k = pos_of_dvd_of_pos k.1 (positive_size w h)
 
-pub reduced_is : (x y w : ℤ) (g d : ℕ) → pos 0 <ℤ w → IsGcd (unsigned_abs x) (unsigned_abs y) g → IsGcd g (unsigned_abs w) d
+-- the quotients by the common divisor are the place in lowest terms
+pub reduced_is : (x y w : ℤ) (g d : ℕ) → pos 0 <ℤ w → IsGcd (unsigned_abs x) (unsigned_abs y) g
+    → IsGcd g (unsigned_abs w) d
     → IsReduced x y w (record { x = int_div x (pos d); y = int_div y (pos d); w = int_div w (pos d) })
 reduced_is x y w g d h j k =
     let some : 0 < d = divisor_positive w g d h k in
@@ -55,15 +58,22 @@ reduced_is x y w g d h j k =
 
 -- ---- as the code computes it
 
-code : (w : Width) (a : ℤ) (d : ℕ) → FitsSigned w a → d < 2 ^ hbits w → int_div (to_z w (of_z w a)) (to_z w d) ≡ int_div a (pos d)
+code : (w : Width) (a : ℤ) (d : ℕ) → FitsSigned w a → d < 2 ^ hbits w
+    → int_div (to_z w (of_z w a)) (to_z w d) ≡ int_div a (pos d)
 code w a d f h = ap (λ z. int_div z (to_z w d)) (to_z-of_z w a f) ∙ ap (λ z. int_div a z) (to_z_pos w d h)
 
-pub code_fits : (w : Width) (a : ℤ) (d : ℕ) → FitsSigned w a → 0 < d → d < 2 ^ hbits w → FitsSigned w (int_div (to_z w (of_z w a)) (to_z w d))
-code_fits w a d f some h = let above : pos 0 <ℤ pos d = omega (arith, ints) in subst (FitsSigned w) (sym (code w a d f h)) (quot_fits w a (pos d) f above)
+-- a quotient of the code fits its type
+pub code_fits : (w : Width) (a : ℤ) (d : ℕ) → FitsSigned w a → 0 < d → d < 2 ^ hbits w
+    → FitsSigned w (int_div (to_z w (of_z w a)) (to_z w d))
+code_fits w a d f some h = let above : pos 0 <ℤ pos d = omega (arith, ints) in
+    subst (FitsSigned w) (sym (code w a d f h)) (quot_fits w a (pos d) f above)
 
-pub code_quot : (w : Width) (a : ℤ) (d : ℕ) → FitsSigned w a → 0 < d → d < 2 ^ hbits w → to_z w (of_z w (int_div (to_z w (of_z w a)) (to_z w d))) ≡ int_div a (pos d)
+-- and is the quotient of the numbers
+pub code_quot : (w : Width) (a : ℤ) (d : ℕ) → FitsSigned w a → 0 < d → d < 2 ^ hbits w
+    → to_z w (of_z w (int_div (to_z w (of_z w a)) (to_z w d))) ≡ int_div a (pos d)
 code_quot w a d f some h = to_z-of_z w _ (code_fits w a d f some h) ∙ code w a d f h
 
+-- the common divisor fits the type, too
 pub divisor_below : (w : ℤ) (g d : ℕ) → pos 0 <ℤ w → FitsSigned w128 w → IsGcd g (unsigned_abs w) d → d < 2 ^ 127
 divisor_below w g d h f k = let l = le_of_dvd (positive_size w h) k.1 in omega (arith, ints)
 
@@ -71,5 +81,6 @@ divisor_below w g d h f k = let l = le_of_dvd (positive_size w h) k.1 in omega (
 pub abs_of : (z : ℤ) (n : ℕ) → FitsSigned w128 z → n ≡ unsigned_abs (to_z w128 (of_z w128 z)) → n ≡ unsigned_abs z
 abs_of z n f h = h ∙ ap unsigned_abs (to_z-of_z w128 z f)
 
+-- what the calls of `gcd` said, of the numbers themselves
 pub gcd_at : (a b : ℕ) {m n g : ℕ} → m ≡ a → n ≡ b → IsGcd m n g → IsGcd a b g
 gcd_at a b {m} {n} {g} e f h = subst (λ k. IsGcd a k g) f (subst (λ k. IsGcd k n g) e h)

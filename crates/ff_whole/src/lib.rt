@@ -9,6 +9,8 @@ mod meeting;
 mod places;
 mod points;
 mod sizes;
+#[cfg(test)]
+mod tests;
 
 pub use convex::{is_convex, next_place};
 pub use divisors::gcd;

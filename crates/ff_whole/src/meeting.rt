@@ -1,18 +1,18 @@
 //! Where two lines meet.
-ghost use Rattle.std.specs.Prelude.{◌≡◌, pos, ◌-ℤ◌, ◌*ℤ◌, ◌^◌, MatchOption};
+ghost use Rattle.std.specs.Prelude.{◌≡◌, pos, ◌-ℤ◌, ◌*ℤ◌, MatchOption};
 ghost use Rattle.ff_whole.specs.Sizes.{IsBelow, IsLine};
 ghost use Rattle.ff_whole.specs.Places.{slant};
 ghost use Rattle.ff_whole.specs.Meeting.{IsMeet};
 
 use crate::divisors::reduced;
-use crate::{Line, Place};
+use crate::{Line, OFFSET_SIZE, Place};
 
 // `a * d - c * b`, with no overflow.
 fn determinant(a: i64, b: i64, c: i64, d: i64) -> i128
-    requires a_below { IsBelow (2 ^ 62) a }
-    requires b_below { IsBelow (2 ^ 62) b }
-    requires c_below { IsBelow (2 ^ 62) c }
-    requires d_below { IsBelow (2 ^ 62) d }
+    requires a_below { IsBelow OFFSET_SIZE a }
+    requires b_below { IsBelow OFFSET_SIZE b }
+    requires c_below { IsBelow OFFSET_SIZE c }
+    requires d_below { IsBelow OFFSET_SIZE d }
     ensures { result ≡ a *ℤ d -ℤ c *ℤ b }
 {
     a as i128 * d as i128 - c as i128 * b as i128
