@@ -1,7 +1,8 @@
 -- The head of a report: its counts, its faces with their folded points, and its pairs. This project's own.
-use Rattle.std.specs.Prelude.{◌≡◌, ℕ, ℤ, ◌<◌, Bool, if◌then◌else◌, List, [], ◌++◌, length, map, slice_index, slice_index_or, codes, Option, None, Some}
+use Rattle.std.specs.Prelude.{◌≡◌, ℕ, zero, suc, ℤ, ◌<◌, Bool, if◌then◌else◌, List, [], ◌++◌, length, map, slice_index, slice_index_or, codes, Option, None, Some, option_map}
+use Rattle.std.specs.Borrow.{Bor}
 use Rattle.std.specs.Fmt.{decimal, signed_decimal}
-use Rattle.std.specs.List.{flat_map, range_with_len}
+use Rattle.std.specs.List.{flat_map}
 use Rattle.ff_whole.specs.declared.points.Pt.{Pt}
 use Rattle.ff_whole.specs.Convex.{point_at}
 use Rattle.ff_tables.specs.declared.orders.Order.{Order}
@@ -16,7 +17,8 @@ use Rattle.ff_propagate.specs.Facts.{value_at}
 
 -- a line for each number below the count
 abbrev pub lines_of : (ℕ → List ℕ) → ℕ → List ℕ
-lines_of line count = flat_map line (range_with_len 0 count)
+lines_of line zero = []
+lines_of line (suc n) = lines_of line n ++ line n
 
 -- `faces F scale D pairs P constraints C`
 abbrev pub counts_line : ℕ → ℤ → ℕ → ℕ → List ℕ
@@ -59,3 +61,7 @@ head faces folded case facts =
 pub record FitFolding (faces : Faces) (folded : Folded) : Type 0 where
   pub flags : length folded.up ≡ length faces.rings
   pub points : (f i : ℕ) → f < length faces.rings → i < length (ring_at faces.rings f) → slice_index (ring_at faces.rings f) i < length folded.points
+
+-- facts that are lent
+abbrev pub seen_facts : Option (Bor (List (Option Fact))) → Option (List (Option Fact))
+seen_facts facts = option_map (λ f. f.now) facts

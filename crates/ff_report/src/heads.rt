@@ -5,7 +5,7 @@ ghost use Rattle.ff_whole.specs.Convex.{point_at};
 ghost use Rattle.ff_types.specs.Faces.{ring_at};
 ghost use Rattle.ff_propagate.specs.declared.facts.Fact.{Fact};
 ghost use Rattle.ff_propagate.specs.Facts.{value_at};
-ghost use Rattle.ff_report.specs.Heads.{lines_of, counts_line, corner_text, face_line, face_of, order_name, pair_line, pair_of, head, FitFolding};
+ghost use Rattle.ff_report.specs.Heads.{lines_of, counts_line, corner_text, face_line, face_of, order_name, pair_line, pair_of, head, seen_facts, FitFolding};
 
 use ff_propagate::Facts;
 use ff_tables::{NoMemory, Order, Text};
@@ -62,14 +62,27 @@ fn push_face(
     text.push_str("\n")
 }
 
+fn push_face_at(
+    text: &mut String,
+    faces: &Faces,
+    folded: &Folded,
+    f: usize,
+) -> Result<(), AllocError>
+    requires fit { FitFolding faces.now folded.now }
+    requires face { f < length faces.now.rings }
+    ensures { OnOk result (string_bytes text.new ≡ string_bytes text.old ++ face_of faces.now folded.now f) }
+{
+    let up = folded.up.as_slice()[f];
+    let ring = faces.rings.as_slice()[f].as_slice();
+    push_face(text, f, up, folded.points.as_slice(), ring)
+}
+
 fn push_faces(text: &mut String, faces: &Faces, folded: &Folded) -> Result<(), AllocError>
     requires { FitFolding faces.now folded.now }
     ensures { OnOk result (string_bytes text.new ≡ string_bytes text.old ++ lines_of (face_of faces.now folded.now) (length faces.now.rings)) }
 {
-    let rings = faces.rings.as_slice();
-    let up = folded.up.as_slice();
-    for f in 0..rings.len() {
-        push_face(text, f, up[f], folded.points.as_slice(), rings[f].as_slice())?;
+    for f in 0..faces.rings.as_slice().len() {
+        push_face_at(text, faces, folded, f)?;
     }
     Ok(())
 }
@@ -103,13 +116,20 @@ fn value_of(facts: &Facts, var: u32) -> Option<Order>
     Some(facts.fact(var)?.value)
 }
 
+fn push_pair_at(text: &mut String, pairs: &Pairs, facts: &Facts, n: u32) -> Result<(), AllocError>
+    requires { (length facts.now ≡ length pairs.now) × (n < length pairs.now) }
+    ensures { OnOk result (string_bytes text.new ≡ string_bytes text.old ++ pair_of pairs.now facts.now n) }
+{
+    let (f, g) = pairs.faces(n);
+    push_pair(text, n, f, g, value_of(facts, n))
+}
+
 fn push_pairs(text: &mut String, pairs: &Pairs, facts: &Facts) -> Result<(), AllocError>
     requires { length facts.now ≡ length pairs.now }
     ensures { OnOk result (string_bytes text.new ≡ string_bytes text.old ++ lines_of (pair_of pairs.now facts.now) (length pairs.now)) }
 {
     for n in 0..pairs.count() as u32 {
-        let (f, g) = pairs.faces(n);
-        push_pair(text, n, f, g, value_of(facts, n))?;
+        push_pair_at(text, pairs, facts, n)?;
     }
     Ok(())
 }
@@ -124,8 +144,8 @@ pub fn head_text(
     facts: Option<&Facts>,
 ) -> Result<Text, NoMemory>
     requires folding { FitFolding faces.now folded.now }
-    requires facts { (fs : List (Option Fact)) → option_map (λ f. f.now) facts ≡ Some fs → length fs ≡ length case.now.pairs }
-    ensures { IfOk result (λ text. text ≡ head faces.now folded.now case.now (option_map (λ f. f.now) facts)) }
+    requires facts { (fs : List (Option Fact)) → seen_facts facts ≡ Some fs → length fs ≡ length case.now.pairs }
+    ensures { IfOk result (λ text. text ≡ head faces.now folded.now case.now (seen_facts facts.entry)) }
 {
     let mut text = String::new(alloc);
     push_counts(

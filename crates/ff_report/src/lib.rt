@@ -4,8 +4,8 @@
 mod heads;
 mod parts;
 mod refusals;
-
-
+#[cfg(test)]
+mod tests;
 
 pub use heads::head_text;
 pub use parts::{PartOutcome, part_text};
