@@ -1,5 +1,6 @@
 pub mod Apart
 pub mod Lists
+pub mod SheetReports
 pub mod Pieces
 pub mod Answers
 pub mod Runs

@@ -4,7 +4,8 @@ use Rattle.ff_top.specs.Answer.{IsAnswer}
 use Rattle.ff_top.specs.Sheet.{IsRefused, SpellsSheet}
 use Rattle.ff_read.specs.Read.{RefusesBytes}
 use Rattle.ff_read.proofs.OneReading.{reading_is_one}
-use Rattle.ff_top.specs.Texts.{usage_line, refusal_line, report}
+use Rattle.ff_top.specs.Texts.{usage_line, report}
+use Rattle.ff_report.specs.Refusals.{refusal_line}
 use Rattle.ff_types.specs.declared.limits.TheConstants.{MOST_BYTES}
 use Rattle.ff_types.specs.declared.patterns.Pattern.{Pattern}
 use Rattle.ff_types.specs.declared.refusals.Refusal.{Refusal}

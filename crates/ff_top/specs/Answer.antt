@@ -1,6 +1,7 @@
 -- What the program answers and writes. This project's own.
 use Rattle.std.specs.Prelude.{ℕ, ◌≡◌, ◌⊎◌, IfSome, List, [], ◌∷◌, codes, Option}
-use Rattle.ff_top.specs.Texts.{usage_line, refusal_line, report}
+use Rattle.ff_top.specs.Texts.{usage_line, report}
+use Rattle.ff_report.specs.Refusals.{refusal_line}
 use Rattle.ff_top.specs.Sheet.{SpellsSheet, IsRefused}
 use Rattle.ff_top.specs.Transfer.{Tells, Got, GotFront, GotPart}
 use Rattle.ff_types.specs.declared.patterns.Pattern.{Pattern}

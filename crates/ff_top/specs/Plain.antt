@@ -1,12 +1,13 @@
 -- A plain sheet: one convex face, whose border is all of its edges. This project's own.
-use Rattle.std.specs.Prelude.{ℕ, ◌≡◌, ◌<◌, List, length, Option, None, Some}
-use Rattle.std.specs.List.{All}
+use Rattle.std.specs.Prelude.{ℕ, ◌≡◌, ◌<◌, pos, true, List, [], ◌∷◌, length, Option, None, Some}
+use Rattle.std.specs.List.{All, range_with_len}
 use Rattle.ff_whole.specs.Convex.{next, AreApart, IsConvex}
 use Rattle.ff_types.specs.declared.patterns.EdgeEnds.{EdgeEnds}
 use Rattle.ff_types.specs.declared.patterns.Pattern.{Pattern}
 use Rattle.ff_types.specs.declared.patterns.Mark.{Mark}
 use Rattle.ff_types.specs.declared.patterns.Mark.TheVariants.{B}
 use Rattle.ff_types.specs.Patterns.{edge_at}
+use Rattle.ff_top.specs.declared.sheets.Problem.{Problem}
 
 -- the edges join each of n vertices to the next, the last to the first
 pub record AreRing (n : ℕ) (edges : List EdgeEnds) : Type 0 where
@@ -23,3 +24,12 @@ pub record IsPlain (p : Pattern) : Type 0 where
   pub border : AreBorder p.marks
   pub apart : AreApart p.points
   pub convex : IsConvex p.points
+
+-- what a plain sheet comes to: one face, which lies as it was drawn, and nothing to decide
+pub record IsProblemOf (p : Pattern) (problem : Problem) : Type 0 where
+  pub rings : problem.faces.rings ≡ range_with_len 0 (length p.points) ∷ []
+  pub scale : problem.folded.scale ≡ pos 1
+  pub points : problem.folded.points ≡ p.points
+  pub up : problem.folded.up ≡ true ∷ []
+  pub pairs : problem.case.pairs ≡ []
+  pub constraints : problem.case.system.constraints ≡ []

@@ -2,6 +2,7 @@
 #![tactic(auto)]
 
 pub mod plain;
+pub mod sheets;
 pub mod status;
 #[cfg(test)]
 mod tests;

@@ -4,13 +4,14 @@ ghost use Rattle.std.specs.Prelude.{IfOk, OnOk, IsTrue, IsErrOf};
 ghost use Rattle.ff_outside.specs.Streams.{Rose};
 ghost use Rattle.ff_top.specs.Transfer.{Tells, IsReadOff};
 ghost use Rattle.ff_top.specs.Answer.{IsAnswer, IsRun, IsAnswered, IsComplete, OneAnswer, SomeAnswer, solve_words};
-ghost use Rattle.ff_top.specs.Texts.{refusal_line};
+ghost use Rattle.ff_report.specs.Refusals.{refusal_line};
 
 use crate::plain::read_sheet;
 use crate::status::Status;
-use crate::texts::{refusal_text, report_text, usage_text};
+use crate::texts::{report_text, usage_text};
 use crate::transfer::{Input, ReadNo, read_all, write_all};
 use ff_outside::{Sink, Source};
+use ff_report::refusal_text;
 use ff_tables::{NoMemory, Text};
 use ff_types::{MOST_BYTES, No, Refusal};
 use std::alloc::Global;
@@ -51,7 +52,7 @@ fn solve(alloc: Global, bytes: &[u8]) -> Result<Outcome, NoMemory>
     match read_sheet(alloc, bytes) {
         Ok(sheet) => Ok(Outcome {
             status: Status::Done,
-            text: report_text(alloc, &sheet)?,
+            text: report_text(alloc, sheet)?,
         }),
         Err(No::Refused(refusal)) => refuse(alloc, refusal),
         Err(No::NoMemory) => Err(NoMemory),
