@@ -61,7 +61,9 @@ fn each_fault_has_its_refusal(rt: HostRuntime) -> Result<(), Fail> {
     ];
     for (vertices, edges, marks, refusal) in rows {
         let text = object(alloc, vertices, edges, marks)?;
-        let got = read_fold(alloc, text.as_bytes());
+        let bytes = text.as_bytes();
+        assert!(rt; bytes.len() < 1000);
+        let got = read_fold(alloc, bytes);
         assert_eq!(rt;
             got.err(),
             Some(No::Refused(refusal)),
