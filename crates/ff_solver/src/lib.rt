@@ -1,0 +1,5 @@
+//! The solutions of a part, by a tree of tried values.
+#![tactic(auto)]
+
+mod closing;
+mod trail;
