@@ -4,3 +4,4 @@ pub mod Listing
 pub mod Setting
 pub mod Undoing
 pub mod Visits
+pub mod Branching

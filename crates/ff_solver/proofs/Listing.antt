@@ -52,14 +52,14 @@ differ : Below ≡ Above → ⊥
 differ e = cc
 
 -- a variable that was tried before, or the one that is tried now
-tried_or_now : (v : ℕ) (s : Order) (tried : List (ℕ × Order)) (u : ℕ) (t : Order) → Contains ((v, s) ∷ tried) (u, t) → ((u ≡ v) × (t ≡ s)) ⊎ Contains tried (u, t)
+pub tried_or_now : (v : ℕ) (s : Order) (tried : List (ℕ × Order)) (u : ℕ) (t : Order) → Contains ((v, s) ∷ tried) (u, t) → ((u ≡ v) × (t ≡ s)) ⊎ Contains tried (u, t)
 tried_or_now v s tried u t (zero, l, e) = inl (ap (λ q. q.0) (sym e), ap (λ q. q.1) (sym e))
 tried_or_now v s tried u t (suc k, l, e) = inr (k, omega (arith, l), e)
 
-tried_now : (v : ℕ) (s : Order) (tried : List (ℕ × Order)) → Contains ((v, s) ∷ tried) (v, s)
+pub tried_now : (v : ℕ) (s : Order) (tried : List (ℕ × Order)) → Contains ((v, s) ∷ tried) (v, s)
 tried_now v s tried = (0, omega arith, refl)
 
-tried_before : (v : ℕ) (s : Order) (tried : List (ℕ × Order)) (u : ℕ) (t : Order) → Contains tried (u, t) → Contains ((v, s) ∷ tried) (u, t)
+pub tried_before : (v : ℕ) (s : Order) (tried : List (ℕ × Order)) (u : ℕ) (t : Order) → Contains tried (u, t) → Contains ((v, s) ∷ tried) (u, t)
 tried_before v s tried u t (k, l, e) = (suc k, omega (arith, l), e)
 
 module _ (vars : ℕ) (cons : List Constraint) (value : ℕ → Option Order) (part : List ℕ) (fit : AreFit vars cons) (quiet : IsQuiet cons value) (is_part : IsPart vars cons value part) where

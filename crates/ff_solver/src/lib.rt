@@ -2,4 +2,5 @@
 #![tactic(auto)]
 
 mod closing;
+mod path;
 mod trail;
