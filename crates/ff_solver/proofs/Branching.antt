@@ -212,7 +212,7 @@ cut_at : (t : Trail) (m : ℕ) → m < length t.vars.items → cut t m (slice_in
 cut_at t m l = ap (λ vs. without (known t) vs (slice_index t.vars.items m)) (drop_more t.vars.items m 0 l)
     ∙ ap (λ b. if b then None else without (known t) (drop (m + 1) t.vars.items) (slice_index t.vars.items m)) (eq-eqb (slice_index t.vars.items m) (slice_index t.vars.items m) refl)
 
-marks_up : (cons : List Constraint) (t : Trail) (bound more : ℕ) (marks : List ℕ) → bound ≤ more → AreMarks cons t bound marks → AreMarks cons t more marks
+pub marks_up : (cons : List Constraint) (t : Trail) (bound more : ℕ) (marks : List ℕ) → bound ≤ more → AreMarks cons t bound marks → AreMarks cons t more marks
 marks_up cons t bound more [] l are = are
 marks_up cons t bound more (m ∷ marks) l are = (omega (arith, are.0, l), are.1, are.2)
 

@@ -5,3 +5,5 @@ pub mod Setting
 pub mod Undoing
 pub mod Visits
 pub mod Branching
+pub mod Inverting
+pub mod Visited

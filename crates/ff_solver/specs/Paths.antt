@@ -96,3 +96,19 @@ pub record IsSolved (cons : List Constraint) (value : ℕ → Option Order) (par
   pub are_values : AreValues part p.trail values
   pub pending : ArePending cons value part p later
   pub are : nodes ≡ Some values ∷ later
+
+-- the first place of the part whose variable has no value
+pub record IsFirstOpen (part : List ℕ) (t : Trail) (v : ℕ) : Type 0 where
+  pub place : ℕ
+  pub inside : place < length part
+  pub is : slice_index part place ≡ v
+  pub open_yet : known t v ≡ None
+  pub earlier : (j : ℕ) → j < place → known t (slice_index part j) ≡ None → ⊥
+
+-- that variable, where not all of the part have values
+abbrev pub FirstOpen : List ℕ → Trail → Option ℕ → Type 0
+FirstOpen part t None = AreDecided part t
+FirstOpen part t (Some v) = IsFirstOpen part t v
+
+abbrev pub AreWithin : ℕ → List ℕ → Type 0
+AreWithin vars part = (j : ℕ) → j < length part → slice_index part j < vars

@@ -4,3 +4,4 @@
 mod closing;
 mod path;
 mod trail;
+mod visiting;

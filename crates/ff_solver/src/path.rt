@@ -44,7 +44,7 @@ impl Path {
     }
 
     /// Tries Below of the variable, and leaves Above for later.
-    fn branch(&mut self, system: &System, var: u32)
+    pub(crate) fn branch(&mut self, system: &System, var: u32)
         requires path { IsPath system.now.vars system.now.constraints self.old }
         requires var { var < system.now.vars }
         requires open { known self.old.trail var ≡ None }
