@@ -7,3 +7,4 @@ pub mod Visits
 pub mod Branching
 pub mod Inverting
 pub mod Visited
+pub mod Running

@@ -3,5 +3,6 @@
 
 mod closing;
 mod path;
+mod search;
 mod trail;
 mod visiting;

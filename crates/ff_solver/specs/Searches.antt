@@ -1,0 +1,84 @@
+-- What a search tells of its decision tree.
+use Rattle.std.specs.Prelude.{◌≡◌, ℕ, ◌+◌, ◌*◌, ◌<◌, ◌≤◌, ◌++◌, List, [], ◌∷◌, length, drop, replicate, slice_index, Option, Some, None}
+use Rattle.ff_tables.specs.declared.orders.Order.{Order}
+use Rattle.ff_tables.specs.declared.terms.Constraint.{Constraint}
+use Rattle.ff_propagate.specs.Facts.{value_at}
+use Rattle.ff_propagate.specs.Trees.{Tree, IsTree, visits}
+use Rattle.ff_propagate.specs.Chained.{IsChained}
+use Rattle.ff_solver.specs.declared.search.Search.{Search}
+use Rattle.ff_solver.specs.declared.search.Advance.{Advance}
+use Rattle.ff_solver.specs.declared.search.Advance.TheVariants.{Found, Finished, Spent}
+use Rattle.ff_solver.specs.Paths.{IsPath, IsReady, AreLeft, AreNext, ArePending, AreWithin, AreDecided, Nodes}
+
+-- nodes that are no solutions
+abbrev pub idle : ℕ → Nodes
+idle n = replicate n None
+
+-- Of the nodes that are left before a call, it visits the first ones, each for the cost of a node, and leaves the others:
+-- up to the next solution; or to the end, where none of them is a solution; or until the turns that are left don't cover a node,
+-- where more nodes are left and none of those visited is a solution.
+pub record IsFound (cost turns : ℕ) (before after : Nodes) (steps : ℕ) (values : List Order) : Type 0 where
+  pub earlier : ℕ
+  pub counted : steps ≡ earlier + 1
+  pub nodes : before ≡ idle earlier ++ Some values ∷ after
+  pub covered : cost * steps ≤ turns
+
+pub record IsFinished (cost turns : ℕ) (before after : Nodes) (steps : ℕ) : Type 0 where
+  pub nodes : before ≡ idle steps
+  pub ended : after ≡ []
+  pub covered : cost * steps ≤ turns
+
+pub record IsSpent (cost turns : ℕ) (before after : Nodes) (steps : ℕ) : Type 0 where
+  pub nodes : before ≡ idle steps ++ after
+  pub goes_on : after ≡ [] → ⊥
+  pub covered : cost * steps ≤ turns
+  pub not_covered : turns < cost * (steps + 1)
+
+abbrev pub Advances : ℕ → ℕ → Nodes → Nodes → ℕ → Advance → Type 0
+Advances cost turns before after steps (Found values) = IsFound cost turns before after steps values
+Advances cost turns before after steps Finished = IsFinished cost turns before after steps
+Advances cost turns before after steps Spent = IsSpent cost turns before after steps
+
+-- what the parts of a search keep for these constraints
+pub record IsSearch (vars : ℕ) (cons : List Constraint) (s : Search) : Type 0 where
+  pub path : IsPath vars cons s.path
+  pub ready : IsReady cons s.path.trail s.path.next
+  pub chains : IsChained vars cons s.chains
+  pub part : AreWithin vars s.part.vars
+  pub some : 0 < length s.part.vars
+
+-- what the call leaves as it was
+pub record IsSameSearch (old new : Search) : Type 0 where
+  pub facts : new.facts ≡ old.facts
+  pub part : new.part ≡ old.part
+
+-- the nodes that were left, and those that are left after a number of visits, none of which was a solution
+pub record IsGoneOn (cons : List Constraint) (value : ℕ → Option Order) (old now : Search) (steps : ℕ) (nodes : Nodes) : Type 0 where
+  pub later : Nodes
+  pub left : AreLeft cons value old.part.vars now.path now.path.next later
+  pub are : nodes ≡ idle steps ++ later
+
+-- what holds in the midst of a call
+pub record IsRunning (vars : ℕ) (cons : List Constraint) (turns : ℕ) (old now : Search) (left : ℕ) : Type 0 where
+  pub search : IsSearch vars cons now
+  pub same : IsSameSearch old now
+  pub steps : ℕ
+  pub counted : now.visited ≡ old.visited + steps
+  pub paid : left + length old.part.vars * steps ≡ turns
+  pub gone : (value : ℕ → Option Order) (nodes : Nodes) → AreLeft cons value old.part.vars old.path old.path.next nodes → IsGoneOn cons value old now steps nodes
+
+-- the end of a call, in terms of the nodes that are left
+pub record IsRun (cons : List Constraint) (value : ℕ → Option Order) (turns : ℕ) (old new : Search) (nodes : Nodes) (answer : Advance) : Type 0 where
+  pub steps : ℕ
+  pub later : Nodes
+  pub counted : new.visited ≡ old.visited + steps
+  pub left : AreLeft cons value old.part.vars new.path new.path.next later
+  pub advances : Advances (length old.part.vars) turns nodes later steps answer
+
+-- a search at a node that is a solution
+pub record IsAtSolution (vars : ℕ) (cons : List Constraint) (s : Search) : Type 0 where
+  pub path : IsPath vars cons s.path
+  pub chains : IsChained vars cons s.chains
+  pub part : AreWithin vars s.part.vars
+  pub some : 0 < length s.part.vars
+  pub decided : AreDecided s.part.vars s.path.trail

@@ -1,0 +1,129 @@
+//! The search.
+ghost use Rattle.std.specs.Prelude.{◌≡◌, ℕ, ◌+◌, ◌*◌, ◌<◌, ◌≤◌, ◌^◌, ◌++◌, [], IsTrue, IfOk, List, false, length, None, Some, Option, slice_index, slice_index_or, vec_len, vec_capacity};
+ghost use Rattle.ff_tables.specs.declared.orders.Order.{Order as OrderSpec};
+ghost use Rattle.ff_solver.specs.Trails.{known, IsTrail};
+ghost use Rattle.ff_solver.specs.Paths.{AreDecided, AreValues, AreWithin, AreLeft, AreNext, ArePending, IsPassed, IsSolved, Nodes};
+ghost use Rattle.ff_solver.specs.Searches.{IsSearch, IsSameSearch, IsAtSolution, IsRun, IsRunning};
+
+use crate::path::Path;
+use crate::trail::Trail;
+use ff_propagate::{Chains, Facts, Part};
+use ff_tables::{Items, Known, Order, System};
+
+/// A search for the solutions of a part, at a node of the part's decision tree. Contracts see its facts and part, and how many
+/// nodes of the tree it has visited.
+#[derive(Drop)]
+pub struct Search {
+    pub(crate) facts: Facts,
+    pub(crate) part: Part,
+    pub(crate) visited: u64,
+    pub(crate) chains: Chains,
+    pub(crate) path: Path,
+}
+
+/// How a search goes on.
+#[derive(Drop)]
+pub enum Advance {
+    /// The next solution: a value for each variable of the part.
+    Found(Items<Order>),
+    /// The tree has ended.
+    Finished,
+    /// The tree goes on, and the turns that are left don't cover a node.
+    Spent,
+}
+
+// Reads the values of the part's variables.
+fn read_values(part: &[u32], trail: &Trail, vars: u32, values: &mut Vec<Order>)
+    requires within { AreWithin vars part.now }
+    requires wide { length trail.now.values.list.items ≡ vars }
+    requires decided { AreDecided part.now trail.now }
+    requires empty { values.old.items ≡ [] }
+    requires room { length part.now ≤ vec_capacity values.old }
+    ensures { AreValues part.now trail.now values.new.items }
+{
+    let _ = vars;
+    for k in 0..part.len() {
+        if let Some(value) = trail.values.value(part[k]) {
+            values.push_reserved(value);
+        }
+    }
+}
+
+impl Search {
+    // What a node costs.
+    fn cost(&self) -> u64
+        ensures { result ≡ length self.now.part.vars }
+    {
+        self.part.vars.as_slice().len() as u64
+    }
+
+    // Visits the next node. Whether it is a solution.
+    fn step(&mut self, system: &System, head: u32) -> bool
+        requires search { IsSearch system.now.vars system.now.constraints self.old }
+        requires few { length system.now.constraints < 2 ^ 32 }
+        requires next { self.old.path.next ≡ Some head }
+        requires room { self.old.visited + 1 < 2 ^ 64 }
+        ensures same { IsSameSearch self.old self.new }
+        ensures visited { self.new.visited ≡ self.old.visited + 1 }
+        ensures search { result ≡ false → IsSearch system.now.vars system.now.constraints self.new }
+        ensures solution { IsTrue result → IsAtSolution system.now.vars system.now.constraints self.new }
+        ensures passed {
+            result ≡ false → (value : ℕ → Option OrderSpec) (nodes : Nodes) → AreNext system.now.constraints value self.old.part.vars self.old.path nodes
+                → IsPassed system.now.constraints value self.old.part.vars self.new.path nodes
+        }
+        ensures solved {
+            IsTrue result → (value : ℕ → Option OrderSpec) (nodes : Nodes) → AreNext system.now.constraints value self.old.part.vars self.old.path nodes
+                → IsSolved system.now.constraints value self.old.part.vars self.new.path nodes
+        }
+    {
+        self.visited += 1;
+        self.path.visit(system, &self.chains, self.part.vars.as_slice(), head)
+    }
+
+    // Reads the solution, and goes to the last branch that is left.
+    fn answer(&mut self, system: &System, mut values: Vec<Order>) -> Items<Order>
+        requires search { IsAtSolution system.now.vars system.now.constraints self.old }
+        requires empty { values.items ≡ [] }
+        requires room { length self.old.part.vars ≤ vec_capacity values }
+        ensures same { IsSameSearch self.old self.new }
+        ensures visited { self.new.visited ≡ self.old.visited }
+        ensures search { IsSearch system.now.vars system.now.constraints self.new }
+        ensures values { AreValues self.old.part.vars self.old.path.trail result }
+        ensures left {
+            (value : ℕ → Option OrderSpec) (part : List ℕ) (nodes : Nodes) → ArePending system.now.constraints value part self.old.path nodes
+                → AreLeft system.now.constraints value part self.new.path self.new.path.next nodes
+        }
+    {
+        read_values(self.part.vars.as_slice(), &self.path.trail, system.vars, &mut values);
+        self.path.backtrack(system);
+        Items::of(values)
+    }
+
+    // Goes on from the next node, with the memory of an answer.
+    fn run(&mut self, system: &System, turns: u64, values: Vec<Order>) -> Advance
+        requires search { IsSearch system.now.vars system.now.constraints self.old }
+        requires few { length system.now.constraints < 2 ^ 32 }
+        requires turns { length self.old.part.vars * self.old.visited + turns < 2 ^ 64 }
+        requires empty { values.items ≡ [] }
+        requires room { length self.old.part.vars ≤ vec_capacity values }
+        ensures search { IsSearch system.now.vars system.now.constraints self.new }
+        ensures same { IsSameSearch self.old self.new }
+        ensures run {
+            (value : ℕ → Option OrderSpec) (nodes : Nodes) → AreLeft system.now.constraints value self.old.part.vars self.old.path self.old.path.next nodes
+                → IsRun system.now.constraints value turns self.old self.new nodes result
+        }
+    {
+        let cost = self.cost();
+        let mut left = turns;
+        'nodes: while let Some(head) = self.path.next {
+            if left < cost {
+                return Advance::Spent;
+            }
+            left -= cost;
+            if self.step(system, head) {
+                return Advance::Found(self.answer(system, values));
+            }
+        }
+        Advance::Finished
+    }
+}
