@@ -15,3 +15,6 @@ pub use chains::Chains;
 pub use closing::{close, givens_fit};
 pub use facts::{ClashAt, Closed, Fact, Facts, Reason};
 pub use parts::Part;
+
+#[cfg(test)]
+mod tests;

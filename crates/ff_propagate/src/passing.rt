@@ -1,18 +1,42 @@
 //! Passes over all constraints.
 ghost use Rattle.std.specs.Prelude.{◌≡◌, ℕ, ◌+◌, ◌<◌, ◌≤◌, ◌⊎◌, ◌^◌, IsTrue, false, length, None, Some, slice_get};
 ghost use Rattle.ff_tables.specs.Systems.{AreFit};
-ghost use Rattle.ff_tables.specs.Forces.{NoneAgrees, Knows};
+ghost use Rattle.ff_tables.specs.Forces.{IsFirst, NoneAgrees, Knows};
 ghost use Rattle.ff_propagate.specs.Stands.{Stand, Extends, Waits, Quiet, Ready, known_of, Passes};
 ghost use Rattle.ff_propagate.specs.Ends.{Ends};
 
 use crate::facts::{Fact, Reason};
 use crate::levels::level_over;
 use crate::work::{Task, Work};
-use ff_tables::{Constraint, Forced, forced};
+use ff_tables::{Constraint, Forced, Order, forced};
 
 impl Work {
+    // Notes the value that the constraint c forces, with its level.
+    #[cold]
+    #[inline(never)]
+    fn decide(&mut self, task: &Task, con: &Constraint, c: u32, var: u32, value: Order)
+        requires stand { Stand task.now.vars task.now.constraints.now task.now.givens.now self.old }
+        requires fit { AreFit task.now.vars task.now.constraints.now }
+        requires con { slice_get task.now.constraints.now c ≡ Some con.now }
+        requires first { IsFirst con.now.kind con.now.terms (known_of self.old) var value }
+        ensures stand { Stand task.now.vars task.now.constraints.now task.now.givens.now self.new }
+        ensures extends { Extends self.old self.new }
+        ensures waits { Waits self.new self.old.count con.now.terms }
+    {
+        let _ = task;
+        let level = level_over(self.facts.as_slice(), con.terms.as_slice(), self.count);
+        self.set(
+            var,
+            Fact {
+                value,
+                level,
+                reason: Reason::Forced(c),
+            },
+        );
+    }
+
     /// Examines the constraint c. Whether a row of it agrees with what is known.
-    #[inline]
+    #[inline(always)]
     pub(crate) fn examine(&mut self, task: &Task, con: &Constraint, c: u32) -> bool
         requires stand { Stand task.now.vars task.now.constraints.now task.now.givens.now self.old }
         requires fit { AreFit task.now.vars task.now.constraints.now }
@@ -25,15 +49,7 @@ impl Work {
         match forced(con, &self.values) {
             Forced::Nothing => true,
             Forced::Value { var, value } => {
-                let level = level_over(self.facts.as_slice(), con.terms.as_slice(), self.count);
-                self.set(
-                    var,
-                    Fact {
-                        value,
-                        level,
-                        reason: Reason::Forced(c),
-                    },
-                );
+                self.decide(task, con, c, var, value);
                 true
             }
             Forced::Dead => false,

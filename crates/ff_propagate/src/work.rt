@@ -24,7 +24,7 @@ impl Known for Values {
 
     ghost known = { λ s v. value_in s.list.items v };
 
-    #[inline]
+    #[inline(always)]
     fn value(&self, var: u32) -> Option<Order> {
         self.list[var as usize]
     }
@@ -54,7 +54,7 @@ impl Work {
         })
     }
 
-    #[inline]
+    #[inline(always)]
     pub(crate) fn set(&mut self, var: u32, fact: Fact)
         requires values { var < length self.old.values.list.items }
         requires facts { var < length self.old.facts.items }

@@ -8,3 +8,4 @@ pub mod Branching
 pub mod Inverting
 pub mod Visited
 pub mod Running
+pub mod Existing

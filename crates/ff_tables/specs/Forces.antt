@@ -48,6 +48,10 @@ abbrev pub agrees_below : List Term → (ℕ → Option Order) → ℕ → List 
 agrees_below ts f zero row = true
 agrees_below ts f (suc j) row = agrees_below ts f j row && fits (known_at ts f j) (row_at row j)
 
+-- each of the first n terms' variables is known
+abbrev pub AreKnown : List Term → (ℕ → Option Order) → ℕ → Type 0
+AreKnown ts f n = (p : ℕ) → p < n → (s : Order) × Knows f (term_at ts p).var s
+
 -- the term's variable is known, or the term can have both values
 abbrev pub Settled : Kind → List Term → (ℕ → Option Order) → ℕ → Type 0
 Settled kind ts f p = ((s : Order) × Knows f (term_at ts p).var s) ⊎ (Can kind ts (Knows f) p Below × Can kind ts (Knows f) p Above)

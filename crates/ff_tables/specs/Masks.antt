@@ -14,6 +14,11 @@ base TacoTortilla = 18
 base TortillaTortilla = 18
 base Transitivity = 12
 
+-- which of the two masks of a term
+abbrev pub side_of : Order → ℕ
+side_of Below = 0
+side_of Above = 1
+
 -- the tests as bits, the first lowest
 unfoldable pub bits : List Bool → ℕ
 bits [] = 0

@@ -1,33 +1,58 @@
 //! What a constraint forces.
-ghost use Rattle.std.specs.Prelude.{◌≡◌, ℕ, ◌<◌, ◌≤◌, length, map};
+ghost use Rattle.std.specs.Prelude.{◌≡◌, ℕ, ◌<◌, IsTrue, length, map, Some};
 ghost use Rattle.ff_tables.specs.declared.orders.Order.{Order as OrderSpec};
 ghost use Rattle.ff_tables.specs.Orders.{term_at};
 ghost use Rattle.ff_tables.specs.Rows.{rows_of, arity};
 ghost use Rattle.ff_tables.specs.Masks.{bits};
-ghost use Rattle.ff_tables.specs.Forces.{agrees_below, ForcedIs, SettlesBelow};
+ghost use Rattle.ff_tables.specs.Forces.{agrees_below, AreKnown, ForcedIs, SettlesBelow};
 
 use crate::known::{Forced, Known};
-use crate::masks::{all_rows, narrowed, open_value};
-use crate::orders::turned;
+use crate::masks::{all_rows, first_mask, narrowed, open_value};
+use crate::orders::{Order, turned};
 use crate::terms::{Constraint, Kind, Term};
 
-// The rows that agree with what is known.
-#[inline]
-fn agreeing<K: Known>(kind: Kind, terms: &[Term], known: &K) -> u16
+// What one reading of the terms gives.
+#[derive(Clone, Copy)]
+struct Reading {
+    // The rows that agree with what is known.
+    rows: u16,
+    // Whether each term is known.
+    all_known: bool,
+}
+
+// Whether all were known before and this one is.
+#[inline(always)]
+fn still_known(all_known: bool, value: Option<Order>) -> bool
+    ensures { IsTrue result → IsTrue all_known × ((s : OrderSpec) × (value ≡ Some s)) }
+{
+    match value {
+        None => false,
+        Some(_) => all_known,
+    }
+}
+
+// Reads what is known of each term, once.
+#[inline(always)]
+fn read<K: Known>(kind: Kind, terms: &[Term], known: &K) -> Reading
     requires terms { length terms.now ≡ arity kind }
     requires vars { (j : ℕ) → j < length terms.now → (term_at terms.now j).var < K.count known.now }
-    ensures { result ≡ bits (map (agrees_below terms.now (K.known known.now) (length terms.now)) (rows_of kind)) }
+    ensures rows { result.rows ≡ bits (map (agrees_below terms.now (K.known known.now) (length terms.now)) (rows_of kind)) }
+    ensures known { IsTrue result.all_known → AreKnown terms.now (K.known known.now) (length terms.now) }
 {
+    let first = first_mask(kind);
     let mut rows = all_rows(kind);
+    let mut all_known = true;
     for j in 0..terms.len() {
         let term = terms[j];
-        rows = narrowed(kind, j, term.flipped, known.value(term.var), rows);
+        let value = known.value(term.var);
+        rows = narrowed(kind, first, j, term.flipped, value, rows);
+        all_known = still_known(all_known, value);
     }
-    rows
+    Reading { rows, all_known }
 }
 
 // The first term that is unknown and has one value in the rows.
-#[inline]
+#[inline(always)]
 fn first_forced<K: Known>(kind: Kind, terms: &[Term], known: &K, rows: u16) -> Forced
     requires terms { length terms.now ≡ arity kind }
     requires vars { (j : ℕ) → j < length terms.now → (term_at terms.now j).var < K.count known.now }
@@ -35,9 +60,10 @@ fn first_forced<K: Known>(kind: Kind, terms: &[Term], known: &K, rows: u16) -> F
     requires some { 0 < rows }
     ensures { ForcedIs kind terms.now (K.known known.now) result }
 {
+    let first = first_mask(kind);
     for j in 0..terms.len() {
         let term = terms[j];
-        if let Some(value) = open_value(kind, j, known.value(term.var), rows) {
+        if let Some(value) = open_value(kind, first, j, known.value(term.var), rows) {
             return Forced::Value {
                 var: term.var,
                 value: turned(term.flipped, value),
@@ -49,7 +75,7 @@ fn first_forced<K: Known>(kind: Kind, terms: &[Term], known: &K, rows: u16) -> F
 
 /// What the constraint forces from the known values: of the terms whose variable is unknown, the first that has one value in
 /// all rows that agree. It takes no memory.
-#[inline]
+#[inline(always)]
 pub fn forced<K: Known>(constraint: &Constraint, known: &K) -> Forced
     requires terms { length constraint.now.terms ≡ arity constraint.now.kind }
     requires vars { (j : ℕ) → j < length constraint.now.terms → (term_at constraint.now.terms j).var < K.count known.now }
@@ -57,9 +83,12 @@ pub fn forced<K: Known>(constraint: &Constraint, known: &K) -> Forced
 {
     let kind = constraint.kind;
     let terms = constraint.terms.as_slice();
-    let rows = agreeing(kind, terms, known);
-    if rows == 0 {
+    let reading = read(kind, terms, known);
+    if reading.rows == 0 {
         return Forced::Dead;
     }
-    first_forced(kind, terms, known, rows)
+    if reading.all_known {
+        return Forced::Nothing;
+    }
+    first_forced(kind, terms, known, reading.rows)
 }
