@@ -246,16 +246,77 @@ module _ (vars : ℕ) (cons : List Constraint) (value : ℕ → Option Order) (f
       now = closure_forced cons (With (Knows value) tried) c con v s is
           (forces_more con.kind con.terms (Knows f) (AtNode cons (Knows value) tried) v s (λ j t l q. node.inside (term_at con.terms j).var t q) force)
 
+  full : (part : List ℕ) (tried : List (ℕ × Order)) (g : ℕ → Option Order) → IsAtNode cons value tried g → AreSilent cons g → ((j : ℕ) → j < length part → (s : Order) × (g (slice_index part j) ≡ Some s))
+      → (tree : Tree) × IsTreeAt cons (Knows value) part tried tree
+  full part tried g node silent all = (Full (map (λ v. value_or (g v)) part), (calm cons value part tried g node silent, record {
+      as_many = length-map part (λ v. value_or (g v));
+      has = λ j l. node.inside (slice_index part j) (get_or (map (λ v. value_or (g v)) part) j Below)
+          (let a = all j l in a.1 ∙ ap (λ b. Some b) (sym (get_or-map (λ v. value_or (g v)) part j 0 Below l ∙ ap value_or a.1)));
+    }))
+
+  fork : (part : List ℕ) (tried : List (ℕ × Order)) (g : ℕ → Option Order) → IsAtNode cons value tried g → AreSilent cons g → (k : ℕ) → k < length part → g (slice_index part k) ≡ None
+      → ((j : ℕ) → j < k → (s : Order) × (g (slice_index part j) ≡ Some s))
+      → (below : Tree) × IsTreeAt cons (Knows value) part ((slice_index part k, Below) ∷ tried) below → (above : Tree) × IsTreeAt cons (Knows value) part ((slice_index part k, Above) ∷ tried) above
+      → (tree : Tree) × IsTreeAt cons (Knows value) part tried tree
+  fork part tried g node silent k l none earlier below above = (Fork below.0 above.0, (calm cons value part tried g node silent, (slice_index part k, record {
+      place = k;
+      inside = l;
+      is = refl;
+      undecided = λ decided. some_none (settled cons value part tried g node silent (slice_index part k) decided.0 decided.1) none;
+      earlier = λ j m. let e = earlier j m in (e.0, node.inside (slice_index part j) e.0 e.1);
+    }, below.1, above.1)))
+
+  all_of : (f : ℕ → Option Order) → ((c : ℕ) (con : Constraint) → c < length cons → slice_get cons c ≡ Some con → IsSilent f con) → AreSilent cons f
+  all_of f all c con is = all c con (slice_get_within cons c con is) is
+
   close_by : (fuel : ℕ) (tried : List (ℕ × Order)) (f : ℕ → Option Order) → IsAtNode cons value tried f → count_open f vars ≤ fuel → IsClashNode cons (Knows value) tried ⊎ IsClosedNode tried f
-  close_by fuel tried f node few = elim (all_or_more vars cons fit f (length cons)) [
-      inl all ↦ inr (record { values = f; node = node; silent = λ c con is. all c con (slice_get_within cons c con is) is; fewer = omega arith })
+  close_by zero tried f node few = elim (all_or_more vars cons fit f (length cons)) [
+      inl all ↦ inr (record { values = f; node = node; silent = all_of f all; fewer = omega arith })
     | inr step ↦ elim step [
-        inl (c, con, is, none) ↦ inl (dead_clash cons value [] tried f node vars fit c con is none)
-      | inr (c, con, is, more) ↦ on fuel few (count_less f more.var more.value vars more.within more.unknown)
-          (λ n l. close_by n tried (put f more.var more.value) (forced_node tried f node c con is more.var more.value more.unknown more.forces) l)
+        inl dead ↦ inl (dead_clash cons value [] tried f node vars fit dead.0 dead.1 dead.2 dead.3)
+      | inr more ↦ (let less = count_less f more.3.var more.3.value vars more.3.within more.3.unknown in absurd (omega (arith, few, less)))
       ]
     ]
-    where
-      on : (fuel : ℕ) → count_open f vars ≤ fuel → {k : ℕ} {g : ℕ → Option Order} → count_open g vars + 1 ≡ count_open f vars → ((n : ℕ) → count_open g vars ≤ n → IsClashNode cons (Knows value) tried ⊎ IsClosedNode tried g)
-          → IsClashNode cons (Knows value) tried ⊎ IsClosedNode tried f
-      on fuel few less next = ?
+  close_by (suc fuel) tried f node few = elim (all_or_more vars cons fit f (length cons)) [
+      inl all ↦ inr (record { values = f; node = node; silent = all_of f all; fewer = omega arith })
+    | inr step ↦ elim step [
+        inl dead ↦ inl (dead_clash cons value [] tried f node vars fit dead.0 dead.1 dead.2 dead.3)
+      | inr more ↦ (
+          let less = count_less f more.3.var more.3.value vars more.3.within more.3.unknown in
+          elim (close_by fuel tried (put f more.3.var more.3.value) (forced_node tried f node more.0 more.1 more.2 more.3.var more.3.value more.3.unknown more.3.forces) (omega (arith, few, less))) [
+            inl clash ↦ inl clash
+          | inr g ↦ inr (record { values = g.values; node = g.node; silent = g.silent; fewer = omega (arith, g.fewer, less) })
+          ])
+      ]
+    ]
+
+  -- each node without a clash is a leaf, or has two trees below it
+  pub tree_at : (part : List ℕ) → ((j : ℕ) → j < length part → slice_index part j < vars) → (fuel : ℕ) (tried : List (ℕ × Order)) (f : ℕ → Option Order) → IsAtNode cons value tried f → count_open f vars ≤ fuel
+      → (tree : Tree) × IsTreeAt cons (Knows value) part tried tree
+  tree_at part within zero tried f node few = elim (close_by zero tried f node few) [
+      inl clash ↦ (Clash, clash)
+    | inr g ↦ elim (opens g.values part (length part)) [
+        inr all ↦ full part tried g.values g.node g.silent all
+      | inl k ↦ (let less = count_less g.values (slice_index part k.0) Below vars (within k.0 k.1) k.2 in absurd (omega (arith, g.fewer, few, less)))
+      ]
+    ]
+  tree_at part within (suc fuel) tried f node few = elim (close_by (suc fuel) tried f node few) [
+      inl clash ↦ (Clash, clash)
+    | inr g ↦ elim (opens g.values part (length part)) [
+        inr all ↦ full part tried g.values g.node g.silent all
+      | inl k ↦ (
+          let v = slice_index part k.0 in
+          let below = count_less g.values v Below vars (within k.0 k.1) k.2 in
+          let above = count_less g.values v Above vars (within k.0 k.1) k.2 in
+          fork part tried g.values g.node g.silent k.0 k.1 k.2 k.3
+            (tree_at part within fuel ((v, Below) ∷ tried) (put g.values v Below) (node_set cons value tried g.values (put g.values v Below) v Below g.node k.2 (put_here g.values v Below) (put_other g.values v Below)) (omega (arith, g.fewer, few, below)))
+            (tree_at part within fuel ((v, Above) ∷ tried) (put g.values v Above) (node_set cons value tried g.values (put g.values v Above) v Above g.node k.2 (put_here g.values v Above) (put_other g.values v Above)) (omega (arith, g.fewer, few, above))))
+      ]
+    ]
+
+  -- the tree of a part, from a board's values
+  pub tree_of : (part : List ℕ) → ((j : ℕ) → j < length part → slice_index part j < vars) → (tree : Tree) × IsTree cons value part tree
+  tree_of part within = tree_at part within (count_open value vars) [] value (record {
+      inside = λ v s e set closed. closed.base_held v s (inl e);
+      holds = λ v s with_it. elim with_it [ inl e ↦ e | inr among ↦ absurd (omega (arith, among.1)) ];
+    }) (omega arith)
