@@ -9,3 +9,6 @@ pub mod Inverting
 pub mod Visited
 pub mod Running
 pub mod Existing
+pub mod Unique
+pub mod Advancing
+pub mod Started

@@ -15,12 +15,12 @@ use Rattle.ff_solver.specs.Trails.{known}
 use Rattle.ff_solver.specs.Paths.{AreLeft, AreNext, ArePending, AreValues, IsPassed, IsSolved, Nodes}
 use Rattle.ff_solver.specs.Searches.{IsSearch, IsSameSearch, IsGoneOn, IsRunning, IsRun, idle}
 
-visits_some : (tree : Tree) (later : Nodes) → visits tree ++ later ≡ [] → ⊥
+pub visits_some : (tree : Tree) (later : Nodes) → visits tree ++ later ≡ [] → ⊥
 visits_some Clash later e = cc
 visits_some (Full values) later e = cc
 visits_some (Fork below above) later e = cc
 
-times_more : (cost steps : ℕ) → cost * (steps + 1) ≡ cost * steps + cost
+pub times_more : (cost steps : ℕ) → cost * (steps + 1) ≡ cost * steps + cost
 times_more cost steps = ap (λ n. cost * n) (add-one steps) ∙ mul-suc cost steps
 
 next_of : (cons : List Constraint) (value : ℕ → Option Order) (part : List ℕ) (p : Path) (o : Option ℕ) (head : ℕ) (nodes : Nodes) → o ≡ Some head → AreLeft cons value part p o nodes → AreNext cons value part p nodes

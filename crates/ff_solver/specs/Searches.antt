@@ -1,9 +1,14 @@
 -- What a search tells of its decision tree.
-use Rattle.std.specs.Prelude.{◌≡◌, ℕ, ◌+◌, ◌*◌, ◌<◌, ◌≤◌, ◌++◌, List, [], ◌∷◌, length, drop, replicate, slice_index, Option, Some, None}
+use Rattle.std.specs.Prelude.{◌≡◌, ℕ, ◌+◌, ◌*◌, ◌<◌, ◌≤◌, ◌++◌, List, [], ◌∷◌, length, drop, take, replicate, slice_index, Option, Some, None}
 use Rattle.ff_tables.specs.declared.orders.Order.{Order}
 use Rattle.ff_tables.specs.declared.terms.Constraint.{Constraint}
+use Rattle.ff_tables.specs.declared.givens.Given.{Given}
+use Rattle.ff_propagate.specs.declared.facts.Fact.{Fact}
+use Rattle.ff_propagate.specs.declared.facts.Closed.TheVariants.{Board}
+use Rattle.ff_propagate.specs.Closing.{ClosesTo}
 use Rattle.ff_propagate.specs.Facts.{value_at}
-use Rattle.ff_propagate.specs.Trees.{Tree, IsTree, visits}
+use Rattle.ff_propagate.specs.Trees.{Tree, IsTree, visits, found}
+use Rattle.ff_propagate.specs.Solutions.{solutions_of}
 use Rattle.ff_propagate.specs.Chained.{IsChained}
 use Rattle.ff_solver.specs.declared.search.Search.{Search}
 use Rattle.ff_solver.specs.declared.search.Advance.{Advance}
@@ -82,3 +87,45 @@ pub record IsAtSolution (vars : ℕ) (cons : List Constraint) (s : Search) : Typ
   pub part : AreWithin vars s.part.vars
   pub some : 0 < length s.part.vars
   pub decided : AreDecided s.part.vars s.path.trail
+
+-- Where a search stands in the decision tree of its part: of the tree's nodes it has visited as many as it says, and goes on
+-- from the next one. The solutions at the tree's leaves, in tree order, are the part's solutions in their order.
+pub record IsIn (cons : List Constraint) (s : Search) (tree : Tree) : Type 0 where
+  pub is_tree : IsTree cons (value_at s.facts) s.part.vars tree
+  pub within : s.visited ≤ length (visits tree)
+  pub left : AreLeft cons (value_at s.facts) s.part.vars s.path s.path.next (drop s.visited (visits tree))
+  pub solutions : found (visits tree) ≡ solutions_of cons (value_at s.facts) s.part.vars
+
+-- the search stands at its node of the tree for these constraints
+pub record StandsAt (vars : ℕ) (cons : List Constraint) (s : Search) : Type 0 where
+  pub search : IsSearch vars cons s
+  pub tree : Tree
+  pub is_in : IsIn cons s tree
+
+-- the solution that a call found
+abbrev pub solution_in : Advance → List (List Order)
+solution_in (Found values) = values ∷ []
+solution_in Finished = []
+solution_in Spent = []
+
+-- In the tree, the call visits the first of the nodes that were left, and leaves the others. The solutions among the nodes that
+-- were visited are those before the call and the one that it found.
+pub record IsAdvance (tree : Tree) (cost turns before after : ℕ) (answer : Advance) : Type 0 where
+  pub steps : ℕ
+  pub counted : after ≡ before + steps
+  pub advances : Advances cost turns (drop before (visits tree)) (drop after (visits tree)) steps answer
+  pub solutions : found (take after (visits tree)) ≡ found (take before (visits tree)) ++ solution_in answer
+
+-- the same, of whichever tree is the part's
+abbrev pub AdvancesIn : List Constraint → Search → ℕ → Search → Advance → Type 0
+AdvancesIn cons old turns new answer = (tree : Tree) → IsTree cons (value_at old.facts) old.part.vars tree → IsAdvance tree (length old.part.vars) turns old.visited new.visited answer
+
+-- the facts are a board of the system: the closure of some givens, which doesn't clash, with one item for each variable
+abbrev pub IsBoardOf : ℕ → List Constraint → List (Option Fact) → Type 0
+IsBoardOf vars cons fs = (gs : List Given) × ClosesTo vars cons gs (Board fs)
+
+-- a search of the facts and the part that has visited no node
+pub record Starts (facts : List (Option Fact)) (part : List ℕ) (s : Search) : Type 0 where
+  pub facts_are : s.facts ≡ facts
+  pub part_is : s.part.vars ≡ part
+  pub unvisited : s.visited ≡ 0

@@ -4,5 +4,9 @@
 mod closing;
 mod path;
 mod search;
+mod starting;
 mod trail;
 mod visiting;
+
+pub use search::{Advance, Search};
+pub use starting::start;

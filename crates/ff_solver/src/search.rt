@@ -1,14 +1,15 @@
 //! The search.
-ghost use Rattle.std.specs.Prelude.{◌≡◌, ℕ, ◌+◌, ◌*◌, ◌<◌, ◌≤◌, ◌^◌, ◌++◌, [], IsTrue, IfOk, List, false, length, None, Some, Option, slice_index, slice_index_or, vec_len, vec_capacity};
+ghost use Rattle.std.specs.Prelude.{◌≡◌, ℕ, ◌+◌, ◌*◌, ◌<◌, ◌≤◌, ◌^◌, ◌++◌, [], IsTrue, IfOk, OnErr, List, false, length, None, Some, Option, slice_index, slice_index_or, vec_len, vec_capacity};
 ghost use Rattle.ff_tables.specs.declared.orders.Order.{Order as OrderSpec};
 ghost use Rattle.ff_solver.specs.Trails.{known, IsTrail};
 ghost use Rattle.ff_solver.specs.Paths.{AreDecided, AreValues, AreWithin, AreLeft, AreNext, ArePending, IsPassed, IsSolved, Nodes};
-ghost use Rattle.ff_solver.specs.Searches.{IsSearch, IsSameSearch, IsAtSolution, IsRun, IsRunning};
+ghost use Rattle.ff_solver.specs.Searches.{IsSearch, IsSameSearch, IsAtSolution, IsRun, IsRunning, StandsAt, AdvancesIn};
 
 use crate::path::Path;
 use crate::trail::Trail;
 use ff_propagate::{Chains, Facts, Part};
-use ff_tables::{Items, Known, Order, System};
+use ff_tables::{Items, Known, NoMemory, Order, System};
+use std::alloc::Global;
 
 /// A search for the solutions of a part, at a node of the part's decision tree. Contracts see its facts and part, and how many
 /// nodes of the tree it has visited.
@@ -125,5 +126,34 @@ impl Search {
             }
         }
         Advance::Finished
+    }
+
+    /// Visits nodes in tree order while the turns that are left in this call cover one, up to the next solution.
+    pub fn advance(&mut self, alloc: Global, system: &System, turns: u64) -> Result<Advance, NoMemory>
+        requires stands { StandsAt system.now.vars system.now.constraints self.old }
+        requires few { length system.now.constraints < 2 ^ 32 }
+        requires turns { length self.old.part.vars * self.old.visited + turns < 2 ^ 64 }
+        ensures stands { StandsAt system.now.vars system.now.constraints self.new }
+        ensures same { IsSameSearch self.old self.new }
+        ensures advances { IfOk result (λ r. AdvancesIn system.now.constraints self.old turns self.new r) }
+        ensures kept { OnErr result (self.new ≡ self.old) }
+    {
+        if self.path.next.is_none() {
+            return Ok(Advance::Finished);
+        }
+        let cost = self.cost();
+        if turns < cost {
+            return Ok(Advance::Spent);
+        }
+        let values = Vec::with_capacity(alloc, cost as usize)?;
+        Ok(self.run(system, turns, values))
+    }
+
+    /// The turns of all nodes that were visited. It takes no memory.
+    pub fn used(&self) -> u64
+        requires { length self.now.part.vars * self.now.visited < 2 ^ 64 }
+        ensures { result ≡ length self.now.part.vars * self.now.visited }
+    {
+        self.cost() * self.visited
     }
 }
