@@ -69,8 +69,8 @@ impl Chains {
         Ok(Chains { first, next })
     }
 
-    /// One more than a constraint before c, so that each constraint before c that has the variable is below that number. Where c
-    /// has the variable it is the next in its chain.
+    /// A number that is at most c, and above each constraint before c that has the variable: where c has the variable, one more
+    /// than the next in its chain. That the number is no larger than this is no clause: a larger one would only cost time.
     pub fn before(
         &self,
         vars: u32,
@@ -97,7 +97,7 @@ impl Chains {
         c
     }
 
-    /// A number above each constraint that has the variable: one more than the last of them.
+    /// A number above each constraint that has the variable: one more than the last of them. That it is no larger is no clause.
     pub fn last(&self, vars: u32, constraints: &[Constraint], var: u32) -> u32
         requires var { var < vars }
         requires few { length constraints.now < 2 ^ 32 }

@@ -1,0 +1,4 @@
+//! Independent parts of what a closure leaves undecided.
+#![tactic(auto)]
+
+mod labels;
