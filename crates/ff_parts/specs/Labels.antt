@@ -1,5 +1,5 @@
 -- Variables that are labelled by their parts, while constraints are followed from one to the next.
-use Rattle.std.specs.Prelude.{◌≡◌, ℕ, zero, suc, ◌+◌, ◌<◌, ◌≤◌, ◌^◌, ◌⊎◌, List, [], ◌∷◌, length, slice_get, slice_index, Option, Some, None, vec_capacity}
+use Rattle.std.specs.Prelude.{◌≡◌, ℕ, zero, suc, ◌+◌, ◌<◌, ◌≤◌, ◌^◌, ◌⊎◌, List, [], ◌∷◌, ◌++◌, length, slice_get, slice_index, slice_set, Option, Some, None, vec_capacity}
 use Rattle.ff_tables.specs.declared.orders.Order.{Order}
 use Rattle.ff_tables.specs.declared.terms.Term.{Term}
 use Rattle.ff_tables.specs.declared.terms.Constraint.{Constraint}
@@ -65,15 +65,15 @@ pub record Spreads (p : ℕ) (old new : Labels) : Type 0 where
   pub kept : (v : ℕ) → 0 < label old v → label new v ≡ label old v
   pub changed : (v : ℕ) → (label new v ≡ label old v)
       ⊎ ((label old v ≡ 0) × (label new v ≡ p) × ((i : ℕ) × (length old.queue.items ≤ i) × (i < length new.queue.items) × (slice_index new.queue.items i ≡ v)))
+  pub added : (i : ℕ) → length old.queue.items ≤ i → i < length new.queue.items → label new (slice_index new.queue.items i) ≡ p
   pub firsts : new.firsts ≡ old.firsts
 
 -- what holds while the part p, the last one begun, is followed
-pub record IsSpreading (vars : ℕ) (cons : List Constraint) (value : ℕ → Option Order) (p head : ℕ) (l : Labels) : Type 0 where
+pub record IsSpreading (vars : ℕ) (cons : List Constraint) (value : ℕ → Option Order) (p : ℕ) (l : Labels) : Type 0 where
   pub labelling : IsLabelling vars cons value l
   pub mixed : AllMixed cons value p l
   pub last : p ≡ length l.firsts.items
   pub some : 0 < p
-  pub own : AreOf p l head
 
 -- all undecided variables of the constraint have labels
 abbrev pub AllLabelled : (ℕ → Option Order) → Labels → Constraint → ℕ → Type 0
@@ -82,3 +82,18 @@ AllLabelled value l con n = (j : ℕ) → j < n → value (term_at con.terms j).
 -- some variable of the constraint is of the part p
 abbrev pub HasOwn : ℕ → Labels → Constraint → Type 0
 HasOwn p l con = (i : ℕ) × (i < length con.terms) × (label l (term_at con.terms i).var ≡ p)
+
+-- the variable v gets the label p
+pub record IsLabelled (p v : ℕ) (old new : Labels) : Type 0 where
+  pub none : label old v ≡ 0
+  pub part_of : new.part_of.items ≡ slice_set old.part_of.items v p
+  pub queue : new.queue.items ≡ old.queue.items ++ v ∷ []
+  pub room : vec_capacity new.queue ≡ vec_capacity old.queue
+  pub firsts : new.firsts ≡ old.firsts
+
+-- an undecided variable without a label gets the label p
+abbrev pub Reaches : (ℕ → Option Order) → ℕ → ℕ → Labels → Labels → Type 0
+Reaches value p v old new = ((value v ≡ None) × IsLabelled p v old new) ⊎ ((new ≡ old) × (value v ≡ None → 0 < label old v))
+
+abbrev pub HasVar : Constraint → ℕ → Type 0
+HasVar con v = (i : ℕ) × (i < length con.terms) × ((term_at con.terms i).var ≡ v)
