@@ -21,7 +21,7 @@ scan P Q (suc n) h = elim (scan P Q n h) [
     ]
   ]
 
-keeps : (value : ℕ → Option Order) (p : ℕ) (old new : Labels) (head : ℕ) (con : Constraint) → Spreads p old new → head ≤ length old.queue.items → Rests value old head con → Rests value new head con
+pub keeps : (value : ℕ → Option Order) (p : ℕ) (old new : Labels) (head : ℕ) (con : Constraint) → Spreads p old new → head ≤ length old.queue.items → Rests value old head con → Rests value new head con
 keeps value p old new head con x h (inl (i, j, a, b, l, e)) = inl (i, j, a, omega (arith, b, x.count), l, x.front i b ∙ e)
 keeps value p old new head con x h (inr alike) = elim (scan
         (λ j. label new (term_at con.terms j).var ≡ label old (term_at con.terms j).var)

@@ -1,2 +1,4 @@
 pub mod Reaching
 pub mod Following
+pub mod Gathered
+pub mod Beginning

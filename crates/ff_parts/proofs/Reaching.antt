@@ -22,7 +22,7 @@ count_room (zero ∷ xs) v l e = let r = count_le xs in omega (arith, r)
 count_room (suc n ∷ xs) zero l e = absurd (omega (arith, e))
 count_room (suc n ∷ xs) (suc v) l e = let r = count_room xs v (omega (arith, l)) e in omega (arith, r)
 
-count_more : (xs : List ℕ) (v p : ℕ) → v < length xs → slice_index xs v ≡ 0 → 0 < p → count_set (set xs v p) ≡ suc (count_set xs)
+pub count_more : (xs : List ℕ) (v p : ℕ) → v < length xs → slice_index xs v ≡ 0 → 0 < p → count_set (set xs v p) ≡ suc (count_set xs)
 count_more [] v p l e s = absurd (omega (arith, l))
 count_more (zero ∷ xs) zero zero l e s = absurd (omega (arith, s))
 count_more (zero ∷ xs) zero (suc p) l e s = refl
@@ -41,10 +41,10 @@ link_on vars cons value u v w (chain, is) link = go chain u is
     go [] u e = (w ∷ [], (subst (λ x. AreLinked vars cons value x w) (sym e) link, refl))
     go (x ∷ chain) u (first, rest) = let r = go chain x rest in (x ∷ r.0, (first, r.1))
 
-label_here : (p v : ℕ) (old new : Labels) → IsLabelled p v old new → v < length old.part_of.items → label new v ≡ p
+pub label_here : (p v : ℕ) (old new : Labels) → IsLabelled p v old new → v < length old.part_of.items → label new v ≡ p
 label_here p v old new is l = ap (λ xs. get_or xs v 0) is.part_of ∙ get_or-set_same old.part_of.items v p 0 l
 
-label_other : (p v : ℕ) (old new : Labels) → IsLabelled p v old new → (u : ℕ) → (u ≡ v → ⊥) → label new u ≡ label old u
+pub label_other : (p v : ℕ) (old new : Labels) → IsLabelled p v old new → (u : ℕ) → (u ≡ v → ⊥) → label new u ≡ label old u
 label_other p v old new is u ne = ap (λ xs. get_or xs u 0) is.part_of ∙ get_or-set_other old.part_of.items v u p 0 ne
 
 pub spreads_refl : (p : ℕ) (l : Labels) → Spreads p l l
@@ -107,7 +107,7 @@ pub record IsReached (vars : ℕ) (cons : List Constraint) (value : ℕ → Opti
   pub own : HasOwn p new con
   pub labelled : AllLabelled value new con (j + 1)
 
-spreads_set : (p v : ℕ) (old new : Labels) → IsLabelled p v old new → v < length old.part_of.items → Spreads p old new
+pub spreads_set : (p v : ℕ) (old new : Labels) → IsLabelled p v old new → v < length old.part_of.items → Spreads p old new
 spreads_set p v old new is l =
     let long : length new.queue.items ≡ length old.queue.items + 1 = ap length is.queue ∙ length-append old.queue.items (v ∷ []) in
     let last : slice_index new.queue.items (length old.queue.items) ≡ v = ap (λ xs. get_or xs (length old.queue.items) 0) is.queue ∙ get_or_push old.queue.items v 0 (length old.queue.items) refl in

@@ -97,3 +97,15 @@ Reaches value p v old new = ((value v ≡ None) × IsLabelled p v old new) ⊎ (
 
 abbrev pub HasVar : Constraint → ℕ → Type 0
 HasVar con v = (i : ℕ) × (i < length con.terms) × ((term_at con.terms i).var ≡ v)
+
+-- What holds where each variable below v that is undecided has been labelled: the constraints' undecided variables are alike,
+-- and each part's first variable is its least.
+pub record IsBelow (vars : ℕ) (cons : List Constraint) (value : ℕ → Option Order) (v : ℕ) (l : Labels) : Type 0 where
+  pub labelling : IsLabelling vars cons value l
+  pub room : vars ≤ vec_capacity l.firsts
+  pub alike : (c : ℕ) (con : Constraint) → slice_get cons c ≡ Some con → AreAlike value l con
+  pub first : (p : ℕ) → p < length l.firsts.items → label l (slice_index l.firsts.items p) ≡ suc p
+  pub least : (u p : ℕ) → label l u ≡ suc p → slice_index l.firsts.items p ≤ u
+  pub rising : (p q : ℕ) → p < q → q < length l.firsts.items → slice_index l.firsts.items p < slice_index l.firsts.items q
+  pub below : (p : ℕ) → p < length l.firsts.items → slice_index l.firsts.items p < v
+  pub done : (u : ℕ) → u < v → IsUndecided vars value u → 0 < label l u

@@ -1,4 +1,6 @@
 //! Independent parts of what a closure leaves undecided.
 #![tactic(auto)]
 
+mod gathering;
+mod labelling;
 mod labels;
