@@ -33,7 +33,8 @@ turn_one : (b : Bool) (s t : Order) → turn b s ≡ turn b t → s ≡ t
 turn_one b s t e = sym (turn_turn b s) ∙ ap (turn b) e ∙ turn_turn b t
 
 -- what a quiet constraint forces is known
-pub quiet_known : (kind : Kind) (ts : List Term) (f : ℕ → Option Order) (v : ℕ) (s : Order) → ForcedIs kind ts f Nothing → Forces kind ts (Knows f) v s → f v ≡ Some s
+pub quiet_known : (kind : Kind) (ts : List Term) (f : ℕ → Option Order) (v : ℕ) (s : Order)
+    → ForcedIs kind ts f Nothing → Forces kind ts (Knows f) v s → f v ≡ Some s
 quiet_known kind ts f v s q (p, l, e, only) = by_case (q.1 p l)
   where
     by_case : Settled kind ts f p → f v ≡ Some s
@@ -44,7 +45,8 @@ quiet_known kind ts f v s q (p, l, e, only) = by_case (q.1 p l)
         let a : turn fl k.0 ≡ turn fl s = sym (r.3 p (turn fl k.0) l known) ∙ only r.0 r.1 r.2 r.3 in
         ap f (sym e) ∙ k.1 ∙ ap Some (turn_one fl k.0 s a)
     by_case (inr c) =
-        let b : Below ≡ Above = sym c.0.4 ∙ only c.0.0 c.0.1 c.0.2 c.0.3 ∙ sym (only c.1.0 c.1.1 c.1.2 c.1.3) ∙ c.1.4 in cc
+        let b : Below ≡ Above = sym c.0.4 ∙ only c.0.0 c.0.1 c.0.2 c.0.3 ∙ sym (only c.1.0 c.1.1 c.1.2 c.1.3)
+        ∙ c.1.4 in cc
 
 abbrev test : Option Order → Order → Bool
 test None s = false
@@ -61,17 +63,24 @@ some_test : (s : Order) → test (Some s) s ≡ true
 some_test Below = refl
 some_test Above = refl
 
-pub known_value : (vars : ℕ) (cons : List Constraint) (gs : List Given) (w : Work) → Stand vars cons gs w → (v : ℕ) → known_of w v ≡ value_at w.facts.items v
+pub known_value : (vars : ℕ) (cons : List Constraint) (gs : List Given) (w : Work) → Stand vars cons gs w
+    → (v : ℕ) → known_of w v ≡ value_at w.facts.items v
 known_value vars cons gs w st v = known_fact w.values.list.items w.facts.items st.values v
 
-pub exact : (vars : ℕ) (cons : List Constraint) (gs : List Given) (w : Work) → Stand vars cons gs w → HoldsGivens gs (value_at w.facts.items) → Ready cons w w.count (length cons)
+pub exact : (vars : ℕ) (cons : List Constraint) (gs : List Given) (w : Work) → Stand vars cons gs w
+    → HoldsGivens gs (value_at w.facts.items) → Ready cons w w.count (length cons)
     → IsClosure cons (Gives gs) (value_at w.facts.items)
 exact vars cons gs w st gives ready v s = (
-  (λ e. let h = seen_is (fact_at w.facts.items v) s e in subst (λ t. InClosure cons (Gives gs) v t) h.2 (st.inside v h.0 h.1)),
+  (λ e. let h = seen_is (fact_at w.facts.items v) s e in subst (λ t. InClosure cons (Gives gs) v t) h.2
+      (st.inside v h.0 h.1)),
   (λ inside. sym (same v) ∙ test_some (known_of w v) s (inside (λ u t. test (known_of w u) t) (record {
-    base_held = λ u t g. ap (λ (o : Option Order). test o t) (same u ∙ ap (value_at w.facts.items) (sym g.1.variable) ∙ gives g.0 g.1.given g.1.there ∙ ap Some g.1.value) ∙ some_test t;
-    forced_held = λ c con u t is f. ap (λ (o : Option Order). test o t) (quiet_known con.kind con.terms (known_of w) u t (quiet c con is)
-        (forces_more con.kind con.terms (λ x y. IsTrue (test (known_of w x) y)) (Knows (known_of w)) u t (λ j y l q. test_some (known_of w (term_at con.terms j).var) y q) f)) ∙ some_test t;
+    base_held = λ u t g. ap (λ (o : Option Order). test o t) (same u
+        ∙ ap (value_at w.facts.items) (sym g.1.variable) ∙ gives g.0 g.1.given g.1.there ∙ ap Some g.1.value)
+        ∙ some_test t;
+    forced_held = λ c con u t is f. ap (λ (o : Option Order). test o t)
+        (quiet_known con.kind con.terms (known_of w) u t (quiet c con is)
+        (forces_more con.kind con.terms (λ x y. IsTrue (test (known_of w x) y)) (Knows (known_of w)) u t
+        (λ j y l q. test_some (known_of w (term_at con.terms j).var) y q) f)) ∙ some_test t;
   }))),
 )
   where
@@ -92,38 +101,47 @@ one_term TortillaTortilla = omega arith
 one_term Transitivity = omega arith
 
 -- a dead constraint clashes
-pub dead_clashes : (vars : ℕ) (cons : List Constraint) (gs : List Given) (w : Work) → Stand vars cons gs w → AreFit vars cons → (c : ℕ) → IsDead cons w c → Clashes cons (Gives gs)
+pub dead_clashes : (vars : ℕ) (cons : List Constraint) (gs : List Given) (w : Work) → Stand vars cons gs w
+    → AreFit vars cons → (c : ℕ) → IsDead cons w c → Clashes cons (Gives gs)
 dead_clashes vars cons gs w st fit c (con, is, none) =
     let some : 0 < length con.terms = subst (λ n. 0 < n) (sym (fit c con is).terms) (one_term con.kind) in
-    let force : (s : Order) → Forces con.kind con.terms (Knows (known_of w)) (term_at con.terms 0).var s = λ s. (0, some, refl, λ k row at a. absurd (none k row at a)) in
+    let force : (s : Order) → Forces con.kind con.terms (Knows (known_of w)) (term_at con.terms 0).var s = λ s.
+    (0, some, refl, λ k row at a. absurd (none k row at a)) in
     record {
       variable = (term_at con.terms 0).var;
       below = forced_inside vars cons gs w st c con is (term_at con.terms 0).var Below (force Below);
       above = forced_inside vars cons gs w st c con is (term_at con.terms 0).var Above (force Above);
     }
 
-pub dead_at : (vars : ℕ) (cons : List Constraint) (gs : List Given) (w : Work) → Stand vars cons gs w → HoldsGivens gs (value_at w.facts.items) → (c : ℕ) → IsDead cons w c → IsClashAt cons gs w.facts.items (at.Dead c)
+pub dead_at : (vars : ℕ) (cons : List Constraint) (gs : List Given) (w : Work) → Stand vars cons gs w
+    → HoldsGivens gs (value_at w.facts.items) → (c : ℕ) → IsDead cons w c
+    → IsClashAt cons gs w.facts.items (at.Dead c)
 dead_at vars cons gs w st gives c (con, is, none) = (
   gives,
   record {
     constraint = con;
     there = is;
-    none = λ k row at a. none k row at (λ j b l q. a j b l (sym (known_value vars cons gs w st (term_at con.terms j).var) ∙ q));
+    none = λ k row at a. none k row at (λ j b l q. a j b l (sym
+        (known_value vars cons gs w st (term_at con.terms j).var) ∙ q));
   },
 )
 
-both : (cons : List Constraint) (gs : List Given) (v : ℕ) (a b : Order) → (a ≡ b → ⊥) → InClosure cons (Gives gs) v a → InClosure cons (Gives gs) v b → Clashes cons (Gives gs)
+both : (cons : List Constraint) (gs : List Given) (v : ℕ) (a b : Order) → (a ≡ b → ⊥)
+    → InClosure cons (Gives gs) v a → InClosure cons (Gives gs) v b → Clashes cons (Gives gs)
 both cons gs v Below Below ne x y = absurd (ne refl)
 both cons gs v Below Above ne x y = record { variable = v; below = x; above = y }
 both cons gs v Above Below ne x y = record { variable = v; below = y; above = x }
 both cons gs v Above Above ne x y = absurd (ne refl)
 
-pub givens_clash : (cons : List Constraint) (gs : List Given) (a b : ℕ) → IsFirstContradiction gs a b → Clashes cons (Gives gs)
+pub givens_clash : (cons : List Constraint) (gs : List Given) (a b : ℕ) → IsFirstContradiction gs a b
+    → Clashes cons (Gives gs)
 givens_clash cons gs a b f = both cons gs f.h.var f.g.value f.h.value f.contradict.1
-    (subst (λ v. InClosure cons (Gives gs) v f.g.value) f.contradict.0 (λ set closed. closed.base_held f.g.var f.g.value (a, given_at gs a f.g f.g_there)))
+    (subst (λ v. InClosure cons (Gives gs) v f.g.value) f.contradict.0
+    (λ set closed. closed.base_held f.g.var f.g.value (a, given_at gs a f.g f.g_there)))
     (λ set closed. closed.base_held f.h.var f.h.value (b, given_at gs b f.h f.h_there))
 
-pub ruled : (vars : ℕ) (cons : List Constraint) (gs : List Given) (first w : Work) → Stand vars cons gs w → HasGivens gs (length gs) first → Extends first w → MeetsFactRule vars cons gs w.facts.items
+pub ruled : (vars : ℕ) (cons : List Constraint) (gs : List Given) (first w : Work) → Stand vars cons gs w
+    → HasGivens gs (length gs) first → Extends first w → MeetsFactRule vars cons gs w.facts.items
 ruled vars cons gs first w st gives x = record {
   wide = st.wide;
   stands = st.rule;
@@ -132,21 +150,39 @@ ruled vars cons gs first w st gives x = record {
 }
 
 -- the givens that the first facts agree with are held by all later facts
-pub holds : (gs : List Given) (first w : Work) → HasGivens gs (length gs) first → Agreed gs (length gs) first → Extends first w → HoldsGivens gs (value_at w.facts.items)
+pub holds : (gs : List Given) (first w : Work) → HasGivens gs (length gs) first → Agreed gs (length gs) first
+    → Extends first w → HoldsGivens gs (value_at w.facts.items)
 holds gs first w gives agreed x i g is =
     let l = slice_get_within gs i g is in
     let h = gives.all i g l is in
     ap seen (x.facts g.var h.0 h.1) ∙ ap Some (agreed i g l is h.0 h.1)
 
-pub board : (vars : ℕ) (cons : List Constraint) (gs : List Given) (first w : Work) → Stand vars cons gs w → HasGivens gs (length gs) first → Agreed gs (length gs) first → Extends first w → Ready cons w w.count (length cons)
+pub board : (vars : ℕ) (cons : List Constraint) (gs : List Given) (first w : Work) → Stand vars cons gs w
+    → HasGivens gs (length gs) first → Agreed gs (length gs) first → Extends first w
+    → Ready cons w w.count (length cons)
     → ClosesTo vars cons gs (Board w.facts.items)
-board vars cons gs first w st gives agreed x ready = (ruled vars cons gs first w st gives x, exact vars cons gs w st (holds gs first w gives agreed x) ready)
+board vars cons gs first w st gives agreed x ready = (
+  ruled vars cons gs first w st gives x,
+  exact vars cons gs w
+      st (holds gs first w gives agreed x) ready,
+)
 
-pub dead : (vars : ℕ) (cons : List Constraint) (gs : List Given) (first w : Work) → Stand vars cons gs w → AreFit vars cons → HasGivens gs (length gs) first → Agreed gs (length gs) first → Extends first w
+pub dead : (vars : ℕ) (cons : List Constraint) (gs : List Given) (first w : Work) → Stand vars cons gs w
+    → AreFit vars cons → HasGivens gs (length gs) first → Agreed gs (length gs) first → Extends first w
     → (c : ℕ) → IsDead cons w c → ClosesTo vars cons gs (Clash w.facts.items (at.Dead c))
-dead vars cons gs first w st fit gives agreed x c d = (ruled vars cons gs first w st gives x, dead_at vars cons gs w st (holds gs first w gives agreed x) c d, dead_clashes vars cons gs w st fit c d)
+dead vars cons gs first w st fit gives agreed x c d = (
+  ruled vars cons gs first w st gives x,
+  dead_at vars cons gs
+      w st (holds gs first w gives agreed x) c d,
+  dead_clashes vars cons gs w st fit c d,
+)
 
-pub given_clash : (vars : ℕ) (cons : List Constraint) (gs : List Given) (w : Work) → Stand vars cons gs w → HasGivens gs (length gs) w → (a : ClashAt) → GaveAll gs (length gs) w (Some a)
+pub given_clash : (vars : ℕ) (cons : List Constraint) (gs : List Given) (w : Work) → Stand vars cons gs w
+    → HasGivens gs (length gs) w → (a : ClashAt) → GaveAll gs (length gs) w (Some a)
     → ClosesTo vars cons gs (Clash w.facts.items a)
-given_clash vars cons gs w st gives (at.Givens a b) f = (ruled vars cons gs w w st gives (extends_refl w), f, givens_clash cons gs a b f)
+given_clash vars cons gs w st gives (at.Givens a b) f = (
+  ruled vars cons gs w w st gives (extends_refl w),
+  f,
+  givens_clash cons gs a b f,
+)
 given_clash vars cons gs w st gives (at.Dead c) f = absurd f

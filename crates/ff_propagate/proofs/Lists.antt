@@ -23,14 +23,17 @@ pub count_room : (fs : List (Option Fact)) (v : ℕ) → v < length fs → fact_
 count_room [] v l e = absurd (omega arith)
 count_room (None ∷ fs) v l e = let r = set_count_le fs in omega (arith, r)
 count_room (Some h ∷ fs) zero l e = cc
-count_room (Some h ∷ fs) (suc v) l e = let m : v < length fs = omega (arith, l) in let r = count_room fs v m e in omega (arith, r)
+count_room (Some h ∷ fs) (suc v) l e = let m : v < length fs = omega (arith, l) in let r = count_room fs v m e in
+    omega (arith, r)
 
-pub set_count_set : (fs : List (Option Fact)) (v : ℕ) (h : Fact) → v < length fs → fact_at fs v ≡ None → set_count (set fs v (Some h)) ≡ suc (set_count fs)
+pub set_count_set : (fs : List (Option Fact)) (v : ℕ) (h : Fact) → v < length fs → fact_at fs v ≡ None
+    → set_count (set fs v (Some h)) ≡ suc (set_count fs)
 set_count_set [] v h l e = absurd (omega arith)
 set_count_set (None ∷ fs) zero h l e = refl
 set_count_set (Some g ∷ fs) zero h l e = cc
 set_count_set (None ∷ fs) (suc v) h l e = let m : v < length fs = omega (arith, l) in set_count_set fs v h m e
-set_count_set (Some g ∷ fs) (suc v) h l e = let m : v < length fs = omega (arith, l) in ap suc (set_count_set fs v h m e)
+set_count_set (Some g ∷ fs) (suc v) h l e = let m : v < length fs = omega (arith, l) in ap suc
+    (set_count_set fs v h m e)
 
 pub seen_is : (o : Option Fact) (t : Order) → seen o ≡ Some t → (h : Fact) × (o ≡ Some h) × (h.value ≡ t)
 seen_is None t e = cc
@@ -40,7 +43,8 @@ pub seen_none : (o : Option Fact) → seen o ≡ None → o ≡ None
 seen_none None e = refl
 seen_none (Some h) e = cc
 
-pub known_fact : (xs : List (Option Order)) (fs : List (Option Fact)) → xs ≡ map seen fs → (v : ℕ) → value_in xs v ≡ value_at fs v
+pub known_fact : (xs : List (Option Order)) (fs : List (Option Fact)) → xs ≡ map seen fs → (v : ℕ)
+    → value_in xs v ≡ value_at fs v
 known_fact xs fs e v = ap (λ ys. get_or ys v None) e ∙ get_or-map seen fs v None
 
 -- some place below n has Q, or each has P

@@ -23,7 +23,9 @@ abbrev unknown : ℕ → Option Order
 unknown v = None
 
 -- three faces in a strip, both creases unassigned: six orders
-strip_uu : solutions_of (triple 0 1 2 ∷ []) unknown (0 ∷ 1 ∷ 2 ∷ []) ≡ (Below ∷ Below ∷ Below ∷ []) ∷ (Below ∷ Below ∷ Above ∷ []) ∷ (Below ∷ Above ∷ Above ∷ []) ∷ (Above ∷ Below ∷ Below ∷ []) ∷ (Above ∷ Above ∷ Below ∷ []) ∷ (Above ∷ Above ∷ Above ∷ []) ∷ []
+strip_uu : solutions_of (triple 0 1 2 ∷ []) unknown (0 ∷ 1 ∷ 2 ∷ []) ≡ (Below ∷ Below ∷ Below ∷ [])
+    ∷ (Below ∷ Below ∷ Above ∷ []) ∷ (Below ∷ Above ∷ Above ∷ []) ∷ (Above ∷ Below ∷ Below ∷ [])
+    ∷ (Above ∷ Above ∷ Below ∷ []) ∷ (Above ∷ Above ∷ Above ∷ []) ∷ []
 unfolding rows_of
 strip_uu = refl
 
@@ -34,7 +36,8 @@ abbrev taco_taco : List Term → Constraint
 taco_taco terms = record { kind = TacoTaco; terms = terms }
 
 -- four faces in a strip, all creases unassigned: the first and the third crease are folded on one side
-strip_uuu : length (solutions_of (taco_taco (plain 0 ∷ plain 1 ∷ plain 2 ∷ plain 3 ∷ plain 4 ∷ plain 5 ∷ []) ∷ triples_of_four) unknown (0 ∷ 1 ∷ 2 ∷ 3 ∷ 4 ∷ 5 ∷ [])) ≡ 16
+strip_uuu : length (solutions_of (taco_taco (plain 0 ∷ plain 1 ∷ plain 2 ∷ plain 3 ∷ plain 4 ∷ plain 5 ∷ [])
+    ∷ triples_of_four) unknown (0 ∷ 1 ∷ 2 ∷ 3 ∷ 4 ∷ 5 ∷ [])) ≡ 16
 unfolding rows_of
 strip_uuu = refl
 
@@ -44,8 +47,16 @@ unfolding rows_of
 strip_without = refl
 
 -- a square folded twice: eight orders, as the worked row has them
-midlines : solutions_of (taco_taco (plain 0 ∷ plain 1 ∷ plain 2 ∷ plain 3 ∷ plain 4 ∷ plain 5 ∷ []) ∷ taco_taco (plain 1 ∷ plain 0 ∷ plain 2 ∷ turned 3 ∷ plain 5 ∷ plain 4 ∷ []) ∷ triples_of_four) unknown (0 ∷ 1 ∷ 2 ∷ 3 ∷ 4 ∷ 5 ∷ [])
-    ≡ (Below ∷ Below ∷ Below ∷ Below ∷ Below ∷ Above ∷ []) ∷ (Below ∷ Below ∷ Below ∷ Above ∷ Above ∷ Below ∷ []) ∷ (Below ∷ Above ∷ Below ∷ Above ∷ Below ∷ Below ∷ []) ∷ (Below ∷ Above ∷ Above ∷ Above ∷ Above ∷ Above ∷ []) ∷ (Above ∷ Below ∷ Below ∷ Below ∷ Below ∷ Below ∷ []) ∷ (Above ∷ Below ∷ Above ∷ Below ∷ Above ∷ Above ∷ []) ∷ (Above ∷ Above ∷ Above ∷ Below ∷ Below ∷ Above ∷ []) ∷ (Above ∷ Above ∷ Above ∷ Above ∷ Above ∷ Below ∷ []) ∷ []
+midlines : solutions_of (taco_taco (plain 0 ∷ plain 1 ∷ plain 2 ∷ plain 3 ∷ plain 4 ∷ plain 5 ∷ [])
+    ∷ taco_taco (plain 1 ∷ plain 0 ∷ plain 2 ∷ turned 3 ∷ plain 5 ∷ plain 4 ∷ []) ∷ triples_of_four) unknown (0
+    ∷ 1 ∷ 2 ∷ 3 ∷ 4 ∷ 5 ∷ [])
+    ≡ (Below ∷ Below ∷ Below ∷ Below ∷ Below ∷ Above ∷ []) ∷ (Below ∷ Below ∷ Below ∷ Above ∷ Above ∷ Below ∷ [])
+    ∷ (Below ∷ Above ∷ Below ∷ Above ∷ Below ∷ Below ∷ [])
+    ∷ (Below ∷ Above ∷ Above ∷ Above ∷ Above ∷ Above ∷ [])
+    ∷ (Above ∷ Below ∷ Below ∷ Below ∷ Below ∷ Below ∷ [])
+    ∷ (Above ∷ Below ∷ Above ∷ Below ∷ Above ∷ Above ∷ [])
+    ∷ (Above ∷ Above ∷ Above ∷ Below ∷ Below ∷ Above ∷ [])
+    ∷ (Above ∷ Above ∷ Above ∷ Above ∷ Above ∷ Below ∷ []) ∷ []
 unfolding rows_of
 midlines = refl
 
@@ -62,10 +73,13 @@ contradiction_turns = refl
 
 -- The tree of three faces in a strip has 11 nodes, 33 turns, and six solutions.
 abbrev strip_tree : Tree
-strip_tree = Fork (Fork (Fork (Full (Below ∷ Below ∷ Below ∷ [])) (Full (Below ∷ Below ∷ Above ∷ []))) (Full (Below ∷ Above ∷ Above ∷ [])))
-    (Fork (Full (Above ∷ Below ∷ Below ∷ [])) (Fork (Full (Above ∷ Above ∷ Below ∷ [])) (Full (Above ∷ Above ∷ Above ∷ []))))
+strip_tree = Fork (Fork (Fork (Full (Below ∷ Below ∷ Below ∷ [])) (Full (Below ∷ Below ∷ Above
+    ∷ []))) (Full (Below ∷ Above ∷ Above ∷ [])))
+    (Fork (Full (Above ∷ Below ∷ Below ∷ [])) (Fork (Full (Above ∷ Above ∷ Below ∷ [])) (Full (Above ∷ Above
+    ∷ Above ∷ []))))
 
-strip_turns : (length (visits strip_tree) ≡ 11) × (turns_of (0 ∷ 1 ∷ 2 ∷ []) strip_tree ≡ 33) × (turns_to_page (0 ∷ 1 ∷ 2 ∷ []) strip_tree 0 ≡ 33)
+strip_turns : (length (visits strip_tree) ≡ 11) × (turns_of (0 ∷ 1 ∷ 2 ∷ []) strip_tree ≡ 33)
+    × (turns_to_page (0 ∷ 1 ∷ 2 ∷ []) strip_tree 0 ≡ 33)
 strip_turns = (refl, refl, refl)
 
 strip_found : found (visits strip_tree) ≡ solutions_of (triple 0 1 2 ∷ []) unknown (0 ∷ 1 ∷ 2 ∷ [])

@@ -16,9 +16,11 @@ IsLeft con c v k = (c < k) × ((i : ℕ) × (i < length con.terms) × ((term_at 
 
 -- each constraint waits, is quiet, or is left to be visited
 abbrev pub Almost : List Constraint → Work → ℕ → ℕ → ℕ → Type 0
-Almost cons w head v k = (c : ℕ) (con : Constraint) → slice_get cons c ≡ Some con → (Waits w head con.terms ⊎ Quiet w con) ⊎ IsLeft con c v k
+Almost cons w head v k = (c : ℕ) (con : Constraint) → slice_get cons c ≡ Some con
+    → (Waits w head con.terms ⊎ Quiet w con) ⊎ IsLeft con c v k
 
-pub begins : (cons : List Constraint) (w : Work) (head v k : ℕ) → slice_index w.trail.items head ≡ v → Ready cons w head (length cons) → Covers cons (length cons) v k → Almost cons w (head + 1) v k
+pub begins : (cons : List Constraint) (w : Work) (head v k : ℕ) → slice_index w.trail.items head ≡ v
+    → Ready cons w head (length cons) → Covers cons (length cons) v k → Almost cons w (head + 1) v k
 begins cons w head v k here ready covers c con at = sort (ready c con (slice_get_within cons c con at) at)
   where
     sort : Waits w head con.terms ⊎ Quiet w con → (Waits w (head + 1) con.terms ⊎ Quiet w con) ⊎ IsLeft con c v k
@@ -29,21 +31,25 @@ begins cons w head v k here ready covers c con at = sort (ready c con (slice_get
         (λ ne. inl (inl (i, j, omega (arith, a, ne), b, l, e)))
 
 -- one constraint is visited
-pub visits : (cons : List Constraint) (w w' : Work) (head v k n : ℕ) → Extends w w' → head ≤ w.count → Almost cons w head v (n + 1)
-    → ((con : Constraint) → slice_get cons n ≡ Some con → Waits w' w.count con.terms ⊎ Quiet w' con) → Covers cons n v k → Almost cons w' head v k
+pub visits : (cons : List Constraint) (w w' : Work) (head v k n : ℕ) → Extends w w' → head ≤ w.count
+    → Almost cons w head v (n + 1)
+    → ((con : Constraint) → slice_get cons n ≡ Some con → Waits w' w.count con.terms ⊎ Quiet w' con)
+    → Covers cons n v k → Almost cons w' head v k
 visits cons w w' head v k n x h almost here covers c con at = sort (almost c con at)
   where
     lower : Waits w' w.count con.terms ⊎ Quiet w' con → Waits w' head con.terms ⊎ Quiet w' con
     lower (inl (i, j, a, b, l, e)) = inl (i, j, omega (arith, a, h), b, l, e)
     lower (inr q) = inr q
 
-    sort : (Waits w head con.terms ⊎ Quiet w con) ⊎ IsLeft con c v (n + 1) → (Waits w' head con.terms ⊎ Quiet w' con) ⊎ IsLeft con c v k
+    sort : (Waits w head con.terms ⊎ Quiet w con) ⊎ IsLeft con c v (n + 1)
+        → (Waits w' head con.terms ⊎ Quiet w' con) ⊎ IsLeft con c v k
     sort (inl p) = inl (keeps w w' head con x h p)
     sort (inr (l, (i, b, e))) = dite (ℕ_discrete c n)
         (λ s. inl (lower (here con (ap (slice_get cons) (sym s) ∙ at))))
         (λ ne. inr (covers c con i (omega (arith, l, ne)) at b e, (i, b, e)))
 
-pub ends : (cons : List Constraint) (w : Work) (head v : ℕ) (k : ℕ) → k ≤ 0 → Almost cons w head v k → Ready cons w head (length cons)
+pub ends : (cons : List Constraint) (w : Work) (head v : ℕ) (k : ℕ) → k ≤ 0 → Almost cons w head v k
+    → Ready cons w head (length cons)
 ends cons w head v k z almost c con l at = sort (almost c con at)
   where
     sort : (Waits w head con.terms ⊎ Quiet w con) ⊎ IsLeft con c v k → Waits w head con.terms ⊎ Quiet w con

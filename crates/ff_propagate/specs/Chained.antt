@@ -6,15 +6,19 @@ use Rattle.ff_propagate.specs.declared.chains.Chains.{Chains}
 
 -- each constraint before c that has the variable v is below k
 abbrev pub Covers : List Constraint → ℕ → ℕ → ℕ → Type 0
-Covers cons c v k = (d : ℕ) (con : Constraint) (i : ℕ) → d < c → slice_get cons d ≡ Some con → i < length con.terms → (term_at con.terms i).var ≡ v → d < k
+Covers cons c v k = (d : ℕ) (con : Constraint) (i : ℕ) → d < c → slice_get cons d ≡ Some con
+    → i < length con.terms → (term_at con.terms i).var ≡ v → d < k
 
 -- each of the first n constraints is below what stands at each of its variables
 abbrev pub Held : List Constraint → ℕ → List ℕ → Type 0
-Held cons n first = (d : ℕ) (con : Constraint) (i : ℕ) → d < n → slice_get cons d ≡ Some con → i < length con.terms → d < slice_index first (term_at con.terms i).var
+Held cons n first = (d : ℕ) (con : Constraint) (i : ℕ) → d < n → slice_get cons d ≡ Some con
+    → i < length con.terms → d < slice_index first (term_at con.terms i).var
 
--- what stands at a term of one of the first n constraints covers the constraints before it that have the term's variable
+-- what stands at a term of one of the first n constraints covers the constraints before it that have the
+-- term's variable
 abbrev pub Next : List Constraint → ℕ → List ℕ → Type 0
-Next cons n next = (c : ℕ) (con : Constraint) (j : ℕ) → c < n → slice_get cons c ≡ Some con → j < length con.terms → Covers cons c (term_at con.terms j).var (slice_index next (6 * c + j))
+Next cons n next = (c : ℕ) (con : Constraint) (j : ℕ) → c < n → slice_get cons c ≡ Some con
+    → j < length con.terms → Covers cons c (term_at con.terms j).var (slice_index next (6 * c + j))
 
 -- the chains of these constraints over the variables below vars
 pub record IsChained (vars : ℕ) (cons : List Constraint) (chains : Chains) : Type 0 where

@@ -7,7 +7,8 @@ use Rattle.ff_propagate.specs.Solutions.{joint, solutions_of}
 -- one solution of each part
 abbrev pub IsChoice : List Constraint → (ℕ → Option Order) → List (List ℕ) → List (List Order) → Type 0
 IsChoice cons value [] [] = Unit {0}
-IsChoice cons value (vars ∷ parts) (solution ∷ choice) = Contains (solutions_of cons value vars) solution × IsChoice cons value parts choice
+IsChoice cons value (vars ∷ parts) (solution ∷ choice) = Contains (solutions_of cons value vars) solution
+    × IsChoice cons value parts choice
 IsChoice cons value _ _ = ⊥
 
 -- the values of the closure and of the chosen solutions
@@ -17,4 +18,5 @@ value_of value _ _ = value
 
 -- an assignment is that of the choice
 abbrev pub IsAssignmentOf : ℕ → (ℕ → Option Order) → List (List ℕ) → List (List Order) → (ℕ → Order) → Type 0
-IsAssignmentOf vars value parts choice values = (v : ℕ) → v < vars → value_of value parts choice v ≡ Some (values v)
+IsAssignmentOf vars value parts choice values = (v : ℕ) → v < vars
+    → value_of value parts choice v ≡ Some (values v)

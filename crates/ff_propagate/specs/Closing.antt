@@ -20,7 +20,8 @@ GivensFit vars gs = (i : ℕ) (g : Given) → slice_get gs i ≡ Some g → g.va
 abbrev pub Contradict : Given → Given → Type 0
 Contradict g h = (g.var ≡ h.var) × (g.value ≢ h.value)
 
--- the second is the first given that contradicts an earlier one, and the first is the first given that this one contradicts
+-- the second is the first given that contradicts an earlier one, and the first is the first given that this
+-- one contradicts
 pub record IsFirstContradiction (gs : List Given) (first second : ℕ) : Type 0 where
   pub g : Given
   pub h : Given
@@ -29,7 +30,8 @@ pub record IsFirstContradiction (gs : List Given) (first second : ℕ) : Type 0 
   pub in_order : first < second
   pub contradict : Contradict g h
   pub least_first : (i : ℕ) (k : Given) → i < first → slice_get gs i ≡ Some k → Contradict k h → ⊥
-  pub least_second : (i j : ℕ) (k l : Given) → i < j → j < second → slice_get gs i ≡ Some k → slice_get gs j ≡ Some l → Contradict k l → ⊥
+  pub least_second : (i j : ℕ) (k l : Given) → i < j → j < second → slice_get gs i ≡ Some k
+      → slice_get gs j ≡ Some l → Contradict k l → ⊥
 
 -- no row of the c-th constraint agrees with the facts
 pub record IsDeadIn (cons : List Constraint) (fs : List (Option Fact)) (c : ℕ) : Type 0 where
@@ -37,12 +39,15 @@ pub record IsDeadIn (cons : List Constraint) (fs : List (Option Fact)) (c : ℕ)
   pub there : slice_get cons c ≡ Some constraint
   pub none : NoneAgrees constraint.kind constraint.terms (Knows (value_at fs))
 
--- where the facts clash: two givens that contradict each other; or, where the facts hold all givens, a dead constraint
+-- where the facts clash: two givens that contradict each other; or, where the facts hold all givens, a dead
+-- constraint
 abbrev pub IsClashAt : List Constraint → List Given → List (Option Fact) → ClashAt → Type 0
 IsClashAt cons gs fs (at.Givens first second) = IsFirstContradiction gs first second
 IsClashAt cons gs fs (at.Dead c) = HoldsGivens gs (value_at fs) × IsDeadIn cons fs c
 
--- The facts meet the fact rule. A board has exactly the closure, which then doesn't clash; else the closure clashes.
+-- The facts meet the fact rule. A board has exactly the closure, which then doesn't clash; else the closure
+-- clashes.
 abbrev pub ClosesTo : ℕ → List Constraint → List Given → Closed → Type 0
 ClosesTo vars cons gs (Board fs) = MeetsFactRule vars cons gs fs × IsClosure cons (Gives gs) (value_at fs)
-ClosesTo vars cons gs (Clash fs at) = MeetsFactRule vars cons gs fs × IsClashAt cons gs fs at × Clashes cons (Gives gs)
+ClosesTo vars cons gs (Clash fs at) = MeetsFactRule vars cons gs fs × IsClashAt cons gs fs at
+    × Clashes cons (Gives gs)

@@ -1,5 +1,5 @@
--- The closure of what is known at first, under constraints: the least set that holds it and all that some constraint forces
--- from the set. Propagation, as a least set.
+-- The closure of what is known at first, under constraints: the least set that holds it and all that some
+-- constraint forces from the set. Propagation, as a least set.
 use Rattle.std.specs.Prelude.{◌≡◌, ℕ, ◌↔◌, Bool, List, slice_get, IsTrue, Option, Some}
 use Rattle.ff_tables.specs.declared.orders.Order.{Order}
 use Rattle.ff_tables.specs.declared.orders.Order.TheVariants.{Below, Above}
@@ -10,7 +10,8 @@ use Rattle.ff_tables.specs.Forces.{Forces, Knows}
 -- the set holds the base, and all that some constraint forces from the set
 pub record IsClosed (cons : List Constraint) (base : ℕ → Order → Type 0) (set : ℕ → Order → Bool) : Type 0 where
   pub base_held : (v : ℕ) (s : Order) → base v s → IsTrue (set v s)
-  pub forced_held : (c : ℕ) (con : Constraint) (v : ℕ) (s : Order) → slice_get cons c ≡ Some con → Forces con.kind con.terms (λ u t. IsTrue (set u t)) v s → IsTrue (set v s)
+  pub forced_held : (c : ℕ) (con : Constraint) (v : ℕ) (s : Order) → slice_get cons c ≡ Some con
+      → Forces con.kind con.terms (λ u t. IsTrue (set u t)) v s → IsTrue (set v s)
 
 -- the closure of the base has the value s of the variable v: every set that is closed has it
 abbrev pub InClosure : List Constraint → (ℕ → Order → Type 0) → ℕ → Order → Type 0

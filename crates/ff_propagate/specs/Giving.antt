@@ -17,12 +17,15 @@ NoneBefore gs v k = (i : ℕ) (g : Given) → i < k → slice_get gs i ≡ Some 
 
 -- the facts are those of the first n givens, the first of a variable counting
 pub record HasGivens (gs : List Given) (n : ℕ) (w : Work) : Type 0 where
-  pub all : (i : ℕ) (g : Given) → i < n → slice_get gs i ≡ Some g → (h : Fact) × (fact_at w.facts.items g.var ≡ Some h)
-  pub by : (v : ℕ) (h : Fact) → fact_at w.facts.items v ≡ Some h → (k : ℕ) × (h.reason ≡ by.Given k) × (k < n) × NoneBefore gs v k
+  pub all : (i : ℕ) (g : Given) → i < n → slice_get gs i ≡ Some g → (h : Fact)
+      × (fact_at w.facts.items g.var ≡ Some h)
+  pub by : (v : ℕ) (h : Fact) → fact_at w.facts.items v ≡ Some h → (k : ℕ) × (h.reason ≡ by.Given k)
+      × (k < n) × NoneBefore gs v k
 
 -- each of the first n givens has the value of its variable's fact
 abbrev pub Agreed : List Given → ℕ → Work → Type 0
-Agreed gs n w = (i : ℕ) (g : Given) → i < n → slice_get gs i ≡ Some g → (h : Fact) → fact_at w.facts.items g.var ≡ Some h → h.value ≡ g.value
+Agreed gs n w = (i : ℕ) (g : Given) → i < n → slice_get gs i ≡ Some g → (h : Fact)
+    → fact_at w.facts.items g.var ≡ Some h → h.value ≡ g.value
 
 -- j is the first given that the given g, the i-th, contradicts, and no given before it has the variable
 pub record Contradicts (gs : List Given) (g : Given) (i j : ℕ) : Type 0 where

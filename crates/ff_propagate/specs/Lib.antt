@@ -1,6 +1,7 @@
 pub mod Facts
 pub mod Closure
 pub mod FactRule
+pub mod RuleLaws
 pub mod Closing
 pub mod Parts
 pub mod Solutions

@@ -1,4 +1,5 @@
--- Independent parts of what a closure leaves undecided: classes of variables that constraints link. Components.
+-- Independent parts of what a closure leaves undecided: classes of variables that constraints link.
+-- Components.
 use Rattle.std.specs.Prelude.{◌≡◌, ℕ, ◌<◌, ◌↔◌, List, [], ◌∷◌, length, slice_get, slice_index, Option, Some, None, Contains}
 use Rattle.ff_tables.specs.declared.orders.Order.{Order}
 use Rattle.ff_tables.specs.declared.terms.Constraint.{Constraint}
@@ -29,7 +30,8 @@ pub record AreLinked (vars : ℕ) (cons : List Constraint) (value : ℕ → Opti
 -- the variables of the list lead from v to w, each linked to the next; none leads from v to itself
 abbrev pub IsLinkChain : ℕ → List Constraint → (ℕ → Option Order) → ℕ → List ℕ → ℕ → Type 0
 IsLinkChain vars cons value v [] w = v ≡ w
-IsLinkChain vars cons value v (u ∷ rest) w = AreLinked vars cons value v u × IsLinkChain vars cons value u rest w
+IsLinkChain vars cons value v (u ∷ rest) w = AreLinked vars cons value v u
+    × IsLinkChain vars cons value u rest w
 
 abbrev pub AreConnected : ℕ → List Constraint → (ℕ → Option Order) → ℕ → ℕ → Type 0
 AreConnected vars cons value v w = (chain : List ℕ) × IsLinkChain vars cons value v chain w
@@ -39,10 +41,14 @@ pub record IsPart (vars : ℕ) (cons : List Constraint) (value : ℕ → Option 
   pub some : 0 < length part
   pub undecided : (i : ℕ) → i < length part → IsUndecided vars value (slice_index part i)
   pub rising : (i j : ℕ) → i < j → j < length part → slice_index part i < slice_index part j
-  pub class : (i v : ℕ) → i < length part → IsUndecided vars value v → AreConnected vars cons value (slice_index part i) v ↔ Contains part v
+  pub class : (i v : ℕ) → i < length part → IsUndecided vars value v
+      → AreConnected vars cons value (slice_index part i) v ↔ Contains part v
 
 -- the parts: all classes, in order of their least variables
-pub record AreParts (vars : ℕ) (cons : List Constraint) (value : ℕ → Option Order) (parts : List (List ℕ)) : Type 0 where
+pub record AreParts (vars : ℕ) (cons : List Constraint) (value : ℕ → Option Order) (parts : List (List ℕ))
+    : Type 0 where
   pub each : (k : ℕ) (part : List ℕ) → slice_get parts k ≡ Some part → IsPart vars cons value part
-  pub all : (v : ℕ) → IsUndecided vars value v → (k : ℕ) × (part : List ℕ) × (slice_get parts k ≡ Some part) × Contains part v
-  pub sorted : (k l : ℕ) (p q : List ℕ) → k < l → slice_get parts k ≡ Some p → slice_get parts l ≡ Some q → slice_index p 0 < slice_index q 0
+  pub all : (v : ℕ) → IsUndecided vars value v → (k : ℕ) × (part : List ℕ) × (slice_get parts k ≡ Some part)
+      × Contains part v
+  pub sorted : (k l : ℕ) (p q : List ℕ) → k < l → slice_get parts k ≡ Some p → slice_get parts l ≡ Some q
+      → slice_index p 0 < slice_index q 0

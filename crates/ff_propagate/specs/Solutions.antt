@@ -19,6 +19,7 @@ has_row value con = list_any (agrees_below con.terms value (length con.terms)) (
 abbrev pub is_solution : List Constraint → (ℕ → Option Order) → List ℕ → List Order → Bool
 is_solution cons value vars values = list_all (has_row (joint value vars values)) cons
 
--- all lists of values of the part's variables that are solutions, in lexicographic order with Below before Above
+-- all lists of values of the part's variables that are solutions, in lexicographic order with Below before
+-- Above
 abbrev pub solutions_of : List Constraint → (ℕ → Option Order) → List ℕ → List (List Order)
 solutions_of cons value vars = filter (is_solution cons value vars) (all_lists (length vars))

@@ -15,8 +15,8 @@ pub data Tree : Type 0 where
 abbrev pub With : (ℕ → Order → Type 0) → List (ℕ × Order) → ℕ → Order → Type 0
 With base tried v s = base v s ⊎ Contains tried (v, s)
 
--- The set of a node is the closure of its parent's set and the tried value, which is that of the board and of all
--- that was tried on the way.
+-- The set of a node is the closure of its parent's set and the tried value, which is that of the board and of
+-- all that was tried on the way.
 abbrev pub AtNode : List Constraint → (ℕ → Order → Type 0) → List (ℕ × Order) → ℕ → Order → Type 0
 AtNode cons base tried v s = InClosure cons (With base tried) v s
 
@@ -27,12 +27,14 @@ abbrev pub IsDecidedAt : List Constraint → (ℕ → Order → Type 0) → List
 IsDecidedAt cons base tried v = (s : Order) × AtNode cons base tried v s
 
 -- the values are those that the node has of the part's variables
-pub record HasValues (cons : List Constraint) (base : ℕ → Order → Type 0) (tried : List (ℕ × Order)) (vars : List ℕ) (values : List Order) : Type 0 where
+pub record HasValues (cons : List Constraint) (base : ℕ → Order → Type 0) (tried : List (ℕ × Order))
+    (vars : List ℕ) (values : List Order) : Type 0 where
   pub as_many : length values ≡ length vars
   pub has : (j : ℕ) → j < length vars → AtNode cons base tried (slice_index vars j) (slice_index_or values j Below)
 
 -- the least undecided variable of the part
-pub record IsBranching (cons : List Constraint) (base : ℕ → Order → Type 0) (tried : List (ℕ × Order)) (vars : List ℕ) (v : ℕ) : Type 0 where
+pub record IsBranching (cons : List Constraint) (base : ℕ → Order → Type 0) (tried : List (ℕ × Order))
+    (vars : List ℕ) (v : ℕ) : Type 0 where
   pub place : ℕ
   pub inside : place < length vars
   pub is : slice_index vars place ≡ v
@@ -42,8 +44,10 @@ pub record IsBranching (cons : List Constraint) (base : ℕ → Order → Type 0
 -- The tree below a node where these values were tried.
 abbrev pub IsTreeAt : List Constraint → (ℕ → Order → Type 0) → List ℕ → List (ℕ × Order) → Tree → Type 0
 IsTreeAt cons base vars tried Clash = IsClashNode cons base tried
-IsTreeAt cons base vars tried (Full values) = (IsClashNode cons base tried → ⊥) × HasValues cons base tried vars values
-IsTreeAt cons base vars tried (Fork below above) = (IsClashNode cons base tried → ⊥) × ((v : ℕ) × IsBranching cons base tried vars v
+IsTreeAt cons base vars tried (Full values) = (IsClashNode cons base tried → ⊥)
+    × HasValues cons base tried vars values
+IsTreeAt cons base vars tried (Fork below above) = (IsClashNode cons base tried → ⊥)
+    × ((v : ℕ) × IsBranching cons base tried vars v
     × IsTreeAt cons base vars ((v, Below) ∷ tried) below × IsTreeAt cons base vars ((v, Above) ∷ tried) above)
 
 -- The decision tree of the part, with the board at its root.

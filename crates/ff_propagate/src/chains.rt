@@ -6,12 +6,14 @@ ghost use Rattle.ff_propagate.specs.Chained.{Held, Next, Covers, IsChained};
 use ff_tables::{Constraint, NoMemory};
 use std::alloc::Global;
 
-/// For each variable the chain of the constraints that have it, the last first. Two flat arrays, made in one pass.
+/// For each variable the chain of the constraints that have it, the last first. Two flat arrays, made in one
+/// pass.
 #[derive(Drop)]
 pub struct Chains {
     // For each variable one more than the last constraint that has it.
     first: Vec<u32>,
-    // For the term j of the constraint c, at 6c + j, one more than the last constraint before c that has its variable.
+    // For the term j of the constraint c, at 6c + j, one more than the last constraint before c that has its
+    // variable.
     next: Vec<u32>,
 }
 
@@ -69,8 +71,9 @@ impl Chains {
         Ok(Chains { first, next })
     }
 
-    /// A number that is at most c, and above each constraint before c that has the variable: where c has the variable, one more
-    /// than the next in its chain. That the number is no larger than this is no clause: a larger one would only cost time.
+    /// A number that is at most c, and above each constraint before c that has the variable: where c has the
+    /// variable, one more than the next in its chain. That the number is no larger than this is no clause: a
+    /// larger one would only cost time.
     pub fn before(
         &self,
         vars: u32,
@@ -97,7 +100,8 @@ impl Chains {
         c
     }
 
-    /// A number above each constraint that has the variable: one more than the last of them. That it is no larger is no clause.
+    /// A number above each constraint that has the variable: one more than the last of them. That it is no
+    /// larger is no clause.
     pub fn last(&self, vars: u32, constraints: &[Constraint], var: u32) -> u32
         requires var { var < vars }
         requires few { length constraints.now < 2 ^ 32 }

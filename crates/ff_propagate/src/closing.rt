@@ -57,8 +57,8 @@ fn closed(alloc: Global, mut work: Work, task: &Task) -> Result<Closed, NoMemory
     }
 }
 
-/// The closure of the givens under the constraints of the system: the least set that holds them and all that some constraint
-/// forces from the set. It clashes exactly where this set has both values of some variable.
+/// The closure of the givens under the constraints of the system: the least set that holds them and all that
+/// some constraint forces from the set. It clashes exactly where this set has both values of some variable.
 pub fn close(alloc: Global, system: &System, givens: &Items<Given>) -> Result<Closed, NoMemory>
     requires givens { GivensFit system.now.vars givens.now }
     requires few { (length givens.now < 2 ^ 32) × (length system.now.constraints < 2 ^ 32) }

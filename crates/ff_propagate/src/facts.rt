@@ -66,8 +66,8 @@ impl Facts {
 /// Where a closure clashes.
 #[derive(Clone, Copy, Debug, PartialEq, Eq)]
 pub enum ClashAt {
-    /// Two givens that contradict each other: the second is the first given that contradicts an earlier one, and the first is
-    /// the first that it contradicts.
+    /// Two givens that contradict each other: the second is the first given that contradicts an earlier one,
+    /// and the first is the first that it contradicts.
     Givens { first: u32, second: u32 },
     /// A constraint with no row that agrees with the facts.
     Dead(u32),

@@ -6,6 +6,7 @@ mod closing;
 mod draining;
 mod facts;
 mod giving;
+mod laws;
 mod levels;
 mod parts;
 mod passing;
@@ -14,6 +15,7 @@ mod work;
 pub use chains::Chains;
 pub use closing::{close, givens_fit};
 pub use facts::{ClashAt, Closed, Fact, Facts, Reason};
+pub use laws::{facts_are_in_the_closure, further_facts_keep_the_rule};
 pub use parts::Part;
 
 #[cfg(test)]

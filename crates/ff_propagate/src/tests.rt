@@ -139,7 +139,8 @@ fn a_value_that_all_solutions_share_stays_open(rt: HostRuntime) -> Result<(), Fa
 #[test]
 fn clashes(rt: HostRuntime) -> Result<(), Fail> {
     let alloc = rt.alloc();
-    // The fourth given is the first that contradicts an earlier one; later givens have their facts all the same.
+    // The fourth given is the first that contradicts an earlier one; later givens have their facts all the
+    // same.
     let list = [
         (0, Order::Below),
         (1, Order::Above),
@@ -169,8 +170,8 @@ fn clashes(rt: HostRuntime) -> Result<(), Fail> {
     Ok(())
 }
 
-// Variables of which each equals the next, with the constraints from the last to the first: a pass decides one variable, so
-// the rest is decided by the queue.
+// Variables of which each equals the next, with the constraints from the last to the first: a pass decides
+// one variable, so the rest is decided by the queue.
 #[test]
 fn a_chain_is_closed_by_the_queue(rt: HostRuntime) -> Result<(), Fail> {
     let alloc = rt.alloc();

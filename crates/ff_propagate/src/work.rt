@@ -1,6 +1,6 @@
 //! The facts so far, with the variables in the order in which they were decided.
 ghost use Rattle.std.specs.Prelude.{◌≡◌, ℕ, ◌+◌, ◌<◌, ◌≤◌, ◌⊎◌, ◌^◌, IsTrue, true, false, IfOk, length, replicate, None, Some, slice_set, slice_get, slice_index_or};
-ghost use Rattle.ff_propagate.specs.Stands.{value_in};
+ghost use Rattle.ff_propagate.specs.Stands.{IsUnset, value_in};
 
 use crate::facts::Fact;
 use ff_tables::{Constraint, Given, Known, NoMemory, Order};
@@ -41,7 +41,7 @@ pub(crate) struct Work {
 
 impl Work {
     pub(crate) fn new(alloc: Global, vars: u32) -> Result<Work, NoMemory>
-        ensures { IfOk result (λ w. (w.values.list.items ≡ replicate vars None) × (w.facts.items ≡ replicate vars None) × (w.trail.items ≡ replicate vars 0) × (w.count ≡ 0)) }
+        ensures { IfOk result (λ w. IsUnset vars w) }
     {
         let list = vec![in alloc; None; vars as usize]?;
         let facts = vec![in alloc; None; vars as usize]?;

@@ -40,13 +40,15 @@ and_one true = refl
 and_one false = refl
 
 -- what fits has the known value
-pub fit_is : (fl : Bool) (o : Option Order) (b x : Order) → o ≡ Some (turn fl b) → fits (turned_option fl o) x ≡ true → x ≡ b
+pub fit_is : (fl : Bool) (o : Option Order) (b x : Order) → o ≡ Some (turn fl b)
+    → fits (turned_option fl o) x ≡ true → x ≡ b
 fit_is fl None b x e h = cc
 fit_is fl (Some s) b x e h =
     let i : s ≡ turn fl b = cc in
     same_order (turn fl s) x h ∙ ap (turn fl) i ∙ turn_turn fl b
 
-pub is_fit : (fl : Bool) (o : Option Order) (x : Order) → ((b : Order) → o ≡ Some (turn fl b) → x ≡ b) → fits (turned_option fl o) x ≡ true
+pub is_fit : (fl : Bool) (o : Option Order) (x : Order) → ((b : Order) → o ≡ Some (turn fl b) → x ≡ b)
+    → fits (turned_option fl o) x ≡ true
 is_fit fl None x h = refl
 is_fit fl (Some s) x h =
     let e : x ≡ turn fl s = h (turn fl s) (ap Some (sym (turn_turn fl s))) in
@@ -67,40 +69,50 @@ fits_all ts f (suc n) row h j b l k =
     split j n l = dite (ℕ_discrete j n) (λ e. inl e) (λ ne. inr (omega arith))
 
 pub all_fit : (ts : List Term) (f : ℕ → Option Order) (n : ℕ) (row : List Order)
-    → ((j : ℕ) (b : Order) → j < n → Knows f (term_at ts j).var (turn (term_at ts j).flipped b) → row_at row j ≡ b) → agrees_below ts f n row ≡ true
+    → ((j : ℕ) (b : Order) → j < n → Knows f (term_at ts j).var (turn (term_at ts j).flipped b)
+    → row_at row j ≡ b) → agrees_below ts f n row ≡ true
 all_fit ts f zero row h = refl
 all_fit ts f (suc n) row h = true_and (agrees_below ts f n row) (fits (known_at ts f n) (row_at row n))
     (all_fit ts f n row (λ j b l. h j b (omega arith)))
     (is_fit (term_at ts n).flipped (f (term_at ts n).var) (row_at row n) (λ b. h n b (omega arith)))
 
 -- what a set of rows tells
-pub some_rows : (kind : Kind) (ts : List Term) (f : ℕ → Option Order) (rows : ℕ) → rows ≡ bits (map (agrees_below ts f (length ts)) (rows_of kind)) → 0 < rows → SomeAgrees kind ts (Knows f)
+pub some_rows : (kind : Kind) (ts : List Term) (f : ℕ → Option Order) (rows : ℕ)
+    → rows ≡ bits (map (agrees_below ts f (length ts)) (rows_of kind)) → 0 < rows → SomeAgrees kind ts (Knows f)
 some_rows kind ts f rows e l =
     let r = bits-some (agrees_below ts f (length ts)) (rows_of kind) (subst (λ n. 0 < n) e l) in
     (r.0, r.1, r.2, fits_all ts f (length ts) r.1 r.3)
 
-pub none_rows : (kind : Kind) (ts : List Term) (f : ℕ → Option Order) (rows : ℕ) → rows ≡ bits (map (agrees_below ts f (length ts)) (rows_of kind)) → rows ≡ 0 → NoneAgrees kind ts (Knows f)
+pub none_rows : (kind : Kind) (ts : List Term) (f : ℕ → Option Order) (rows : ℕ)
+    → rows ≡ bits (map (agrees_below ts f (length ts)) (rows_of kind)) → rows ≡ 0 → NoneAgrees kind ts (Knows f)
 none_rows kind ts f rows e z k row at h =
-    true_false (all_fit ts f (length ts) row h) (bits-zero (agrees_below ts f (length ts)) (rows_of kind) (sym e ∙ z) k row at)
+    true_false (all_fit ts f (length ts) row h) (bits-zero (agrees_below ts f (length ts)) (rows_of kind) (sym e
+    ∙ z) k row at)
 
-pub only_rows : (kind : Kind) (ts : List Term) (f : ℕ → Option Order) (p : ℕ) (s : Order) → OnlyIs kind (agrees_below ts f (length ts)) p (Some s) → Only kind ts (Knows f) p s
+pub only_rows : (kind : Kind) (ts : List Term) (f : ℕ → Option Order) (p : ℕ) (s : Order)
+    → OnlyIs kind (agrees_below ts f (length ts)) p (Some s) → Only kind ts (Knows f) p s
 only_rows kind ts f p s h k row at a = h k row at (all_fit ts f (length ts) row a)
 
-pub can_rows : (kind : Kind) (ts : List Term) (f : ℕ → Option Order) (p : ℕ) → OnlyIs kind (agrees_below ts f (length ts)) p None → Can kind ts (Knows f) p Below × Can kind ts (Knows f) p Above
+pub can_rows : (kind : Kind) (ts : List Term) (f : ℕ → Option Order) (p : ℕ)
+    → OnlyIs kind (agrees_below ts f (length ts)) p None → Can kind ts (Knows f) p Below
+    × Can kind ts (Knows f) p Above
 can_rows kind ts f p h = (
   (h.0.0, h.0.1, h.0.2, fits_all ts f (length ts) h.0.1 h.0.3, h.0.4),
   (h.1.0, h.1.1, h.1.2, fits_all ts f (length ts) h.1.1 h.1.3, h.1.4),
 )
 
-pub settles : (kind : Kind) (ts : List Term) (f : ℕ → Option Order) (p : ℕ) → OpenIs kind (agrees_below ts f (length ts)) p (f (term_at ts p).var) None → Settled kind ts f p
+pub settles : (kind : Kind) (ts : List Term) (f : ℕ → Option Order) (p : ℕ)
+    → OpenIs kind (agrees_below ts f (length ts)) p (f (term_at ts p).var) None → Settled kind ts f p
 settles kind ts f p (inl k) = inl k
 settles kind ts f p (inr k) = inr (can_rows kind ts f p k)
 
 -- what is forced from less that is known of the terms is forced from more
 pub forces_more : (kind : Kind) (ts : List Term) (less more : ℕ → Order → Type 0) (v : ℕ) (s : Order)
-    → ((j : ℕ) (t : Order) → j < length ts → less (term_at ts j).var t → more (term_at ts j).var t) → Forces kind ts less v s → Forces kind ts more v s
+    → ((j : ℕ) (t : Order) → j < length ts → less (term_at ts j).var t → more (term_at ts j).var t)
+    → Forces kind ts less v s → Forces kind ts more v s
 forces_more kind ts less more v s up f = (f.0, f.1, f.2, λ k row at a. f.3 k row at (λ j b l q. a j b l (up j _ l q)))
 
 -- the test of a row says what the relation says
-pub agrees_tested : (ts : List Term) (f : ℕ → Option Order) (row : List Order) → (agrees_below ts f (length ts) row ≡ true) ↔ Agrees ts (Knows f) row
+pub agrees_tested : (ts : List Term) (f : ℕ → Option Order) (row : List Order)
+    → (agrees_below ts f (length ts) row ≡ true) ↔ Agrees ts (Knows f) row
 agrees_tested ts f row = (fits_all ts f (length ts) row, all_fit ts f (length ts) row)

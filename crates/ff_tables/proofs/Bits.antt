@@ -32,7 +32,8 @@ pub bits-nil : bits [] ≡ 0
 unfolding bits
 bits-nil = refl
 
-pub bits-and : {A : Type 0} (f g : A → Bool) (xs : List A) → bit_and (bits (map f xs)) (bits (map g xs)) ≡ bits (map (λ x. f x && g x) xs)
+pub bits-and : {A : Type 0} (f g : A → Bool) (xs : List A)
+    → bit_and (bits (map f xs)) (bits (map g xs)) ≡ bits (map (λ x. f x && g x) xs)
 unfolding bits
 bits-and f g [] = refl
 bits-and f g (x ∷ xs) =
@@ -40,22 +41,26 @@ bits-and f g (x ∷ xs) =
     ∙ ap (λ n. n * 2 + bit_and (bit (f x)) (bit (g x))) (bits-and f g xs)
     ∙ ap (λ n. bits (map (λ y. f y && g y) xs) * 2 + n) (bit_and_bits (f x) (g x))
 
-pub bits-same : {A : Type 0} (f g : A → Bool) (xs : List A) → ((x : A) → f x ≡ g x) → bits (map f xs) ≡ bits (map g xs)
+pub bits-same : {A : Type 0} (f g : A → Bool) (xs : List A) → ((x : A) → f x ≡ g x)
+    → bits (map f xs) ≡ bits (map g xs)
 unfolding bits
 bits-same f g [] h = refl
-bits-same f g (x ∷ xs) h = ap (λ n. n * 2 + bit (f x)) (bits-same f g xs h) ∙ ap (λ b. bits (map g xs) * 2 + bit b) (h x)
+bits-same f g (x ∷ xs) h = ap (λ n. n * 2 + bit (f x)) (bits-same f g xs h)
+    ∙ ap (λ b. bits (map g xs) * 2 + bit b) (h x)
 
 is_bit : (a : Bool) → bit a ≡ 0 → a ≡ false
 is_bit true h = absurd (omega arith)
 is_bit false h = refl
 
-pub bits-zero : {A : Type 0} (f : A → Bool) (xs : List A) → bits (map f xs) ≡ 0 → (k : ℕ) (x : A) → slice_get xs k ≡ Some x → f x ≡ false
+pub bits-zero : {A : Type 0} (f : A → Bool) (xs : List A) → bits (map f xs) ≡ 0 → (k : ℕ) (x : A)
+    → slice_get xs k ≡ Some x → f x ≡ false
 unfolding bits
 bits-zero f [] h k x at = cc
 bits-zero f (y ∷ ys) h zero x at = let e : y ≡ x = cc in subst (λ z. f z ≡ false) e (is_bit (f y) (omega arith))
 bits-zero f (y ∷ ys) h (suc k) x at = bits-zero f ys (omega arith) k x at
 
-pub bits-some : {A : Type 0} (f : A → Bool) (xs : List A) → 0 < bits (map f xs) → (k : ℕ) × (x : A) × (slice_get xs k ≡ Some x) × (f x ≡ true)
+pub bits-some : {A : Type 0} (f : A → Bool) (xs : List A) → 0 < bits (map f xs) → (k : ℕ) × (x : A)
+    × (slice_get xs k ≡ Some x) × (f x ≡ true)
 unfolding bits
 bits-some f [] h = absurd (omega arith)
 bits-some f (y ∷ ys) h = by_bool (f y)

@@ -8,11 +8,13 @@ use Rattle.ff_tables.specs.Rows.{arity}
 use Rattle.ff_tables.specs.Systems.{IsFit}
 use Rattle.ff_tables.specs.Fitting.{AreWithin, AllDiffer}
 
-pub fit_from : (vars : ℕ) (con : Constraint) (ts : List Term) → ts ≡ con.terms → length ts ≡ arity con.kind → AreWithin vars ts → AllDiffer ts → IsFit vars con
+pub fit_from : (vars : ℕ) (con : Constraint) (ts : List Term) → ts ≡ con.terms → length ts ≡ arity con.kind
+    → AreWithin vars ts → AllDiffer ts → IsFit vars con
 fit_from vars con ts e n within differ = record {
   terms = ap length (sym e) ∙ n;
   within = subst (λ (us : List Term). AreWithin vars us) e within;
-  differ = subst (λ (us : List Term). (i j : ℕ) → i < length us → j < length us → (term_at us i).var ≡ (term_at us j).var → i ≡ j) e order;
+  differ = subst (λ (us : List Term). (i j : ℕ) → i < length us → j < length us
+      → (term_at us i).var ≡ (term_at us j).var → i ≡ j) e order;
 }
   where
     order : (i j : ℕ) → i < length ts → j < length ts → (term_at ts i).var ≡ (term_at ts j).var → i ≡ j

@@ -1,5 +1,6 @@
--- What a constraint forces from what is known of variables. `known v s` says that the variable v is known to have the value s:
--- a relation, so that more that is known leaves fewer rows, and each user says what knowing means.
+-- What a constraint forces from what is known of variables. `known v s` says that the variable v is known to
+-- have the value s: a relation, so that more that is known leaves fewer rows, and each user says what knowing
+-- means.
 use Rattle.std.specs.Prelude.{◌≡◌, ℕ, zero, suc, ◌<◌, ◌⊎◌, ◌&&◌, Bool, true, List, length, slice_get, Option, Some, None}
 use Rattle.ff_tables.specs.declared.orders.Order.{Order}
 use Rattle.ff_tables.specs.declared.orders.Order.TheVariants.{Below, Above}
@@ -11,9 +12,11 @@ use Rattle.ff_tables.specs.declared.known.Forced.TheVariants.{Nothing, Value, De
 use Rattle.ff_tables.specs.Orders.{turn, turned_option, fits, term_at, row_at}
 use Rattle.ff_tables.specs.Rows.{HasRow}
 
--- the row agrees: it has each value that is known of a term. Where both values are known of a term no row agrees.
+-- the row agrees: it has each value that is known of a term. Where both values are known of a term no row
+-- agrees.
 abbrev pub Agrees : List Term → (ℕ → Order → Type 0) → List Order → Type 0
-Agrees ts known row = (j : ℕ) (b : Order) → j < length ts → known (term_at ts j).var (turn (term_at ts j).flipped b) → row_at row j ≡ b
+Agrees ts known row = (j : ℕ) (b : Order) → j < length ts
+    → known (term_at ts j).var (turn (term_at ts j).flipped b) → row_at row j ≡ b
 
 -- some row agrees
 abbrev pub SomeAgrees : Kind → List Term → (ℕ → Order → Type 0) → Type 0
@@ -29,11 +32,14 @@ Only kind ts known p s = (k : ℕ) (row : List Order) → HasRow kind k row → 
 
 -- some row that agrees has the value s at the term p
 abbrev pub Can : Kind → List Term → (ℕ → Order → Type 0) → ℕ → Order → Type 0
-Can kind ts known p s = (k : ℕ) × (row : List Order) × HasRow kind k row × Agrees ts known row × (row_at row p ≡ s)
+Can kind ts known p s = (k : ℕ) × (row : List Order) × HasRow kind k row × Agrees ts known row
+    × (row_at row p ≡ s)
 
--- the constraint forces the value s of the variable v: v is one of its variables, and each row that agrees has s at v
+-- the constraint forces the value s of the variable v: v is one of its variables, and each row that agrees
+-- has s at v
 abbrev pub Forces : Kind → List Term → (ℕ → Order → Type 0) → ℕ → Order → Type 0
-Forces kind ts known v s = (p : ℕ) × (p < length ts) × ((term_at ts p).var ≡ v) × Only kind ts known p (turn (term_at ts p).flipped s)
+Forces kind ts known v s = (p : ℕ) × (p < length ts) × ((term_at ts p).var ≡ v)
+    × Only kind ts known p (turn (term_at ts p).flipped s)
 
 -- what a function on variables knows
 abbrev pub Knows : (ℕ → Option Order) → ℕ → Order → Type 0
@@ -54,12 +60,14 @@ AreKnown ts f n = (p : ℕ) → p < n → (s : Order) × Knows f (term_at ts p).
 
 -- the term's variable is known, or the term can have both values
 abbrev pub Settled : Kind → List Term → (ℕ → Option Order) → ℕ → Type 0
-Settled kind ts f p = ((s : Order) × Knows f (term_at ts p).var s) ⊎ (Can kind ts (Knows f) p Below × Can kind ts (Knows f) p Above)
+Settled kind ts f p = ((s : Order) × Knows f (term_at ts p).var s)
+    ⊎ (Can kind ts (Knows f) p Below × Can kind ts (Knows f) p Above)
 
 abbrev pub SettlesBelow : Kind → List Term → (ℕ → Option Order) → ℕ → Type 0
 SettlesBelow kind ts f n = (p : ℕ) → p < n → Settled kind ts f p
 
--- some row agrees, and v is the variable of the first unknown term that has one value in all rows that agree, which gives v the value s
+-- some row agrees, and v is the variable of the first unknown term that has one value in all rows that agree,
+-- which gives v the value s
 pub record IsFirst (kind : Kind) (ts : List Term) (f : ℕ → Option Order) (v : ℕ) (s : Order) : Type 0 where
   pub at : ℕ
   pub within : at < length ts
@@ -77,4 +85,5 @@ ForcedIs kind ts f Dead = NoneAgrees kind ts (Knows f)
 
 -- an assignment of values to all variables meets the constraints: it gives each of them one of its rows
 abbrev pub Meets : List Constraint → (ℕ → Order) → Type 0
-Meets cons a = (c : ℕ) (con : Constraint) → slice_get cons c ≡ Some con → SomeAgrees con.kind con.terms (λ v s. a v ≡ s)
+Meets cons a = (c : ℕ) (con : Constraint) → slice_get cons c ≡ Some con
+    → SomeAgrees con.kind con.terms (λ v s. a v ≡ s)

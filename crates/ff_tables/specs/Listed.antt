@@ -16,10 +16,12 @@ abbrev pub three_values : List ℕ → List Order
 three_values faces = order_in faces 0 1 ∷ order_in faces 0 2 ∷ order_in faces 1 2 ∷ []
 
 abbrev pub four_values : List ℕ → List Order
-four_values faces = order_in faces 0 1 ∷ order_in faces 0 2 ∷ order_in faces 0 3 ∷ order_in faces 1 2 ∷ order_in faces 1 3 ∷ order_in faces 2 3 ∷ []
+four_values faces = order_in faces 0 1 ∷ order_in faces 0 2 ∷ order_in faces 0 3 ∷ order_in faces 1 2
+    ∷ order_in faces 1 3 ∷ order_in faces 2 3 ∷ []
 
 abbrev pub orders_of_three : List (List ℕ)
-orders_of_three = (0 ∷ 1 ∷ 2 ∷ []) ∷ (0 ∷ 2 ∷ 1 ∷ []) ∷ (2 ∷ 0 ∷ 1 ∷ []) ∷ (1 ∷ 0 ∷ 2 ∷ []) ∷ (1 ∷ 2 ∷ 0 ∷ []) ∷ (2 ∷ 1 ∷ 0 ∷ []) ∷ []
+orders_of_three = (0 ∷ 1 ∷ 2 ∷ []) ∷ (0 ∷ 2 ∷ 1 ∷ []) ∷ (2 ∷ 0 ∷ 1 ∷ []) ∷ (1 ∷ 0 ∷ 2 ∷ [])
+    ∷ (1 ∷ 2 ∷ 0 ∷ []) ∷ (2 ∷ 1 ∷ 0 ∷ []) ∷ []
 
 -- the faces a, b of one taco are 0 and 1, the faces c, d of the other are 2 and 3:
 -- abcd, abdc, acdb, adcb, dabc, cabd, cdab, dcab, bacd, badc, dbac, cbad, bcda, bdca, cdba, dcba

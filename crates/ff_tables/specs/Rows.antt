@@ -19,7 +19,8 @@ abbrev pub all_lists : ℕ → List (List Order)
 all_lists zero = [] ∷ []
 all_lists (suc n) = map (λ rest. Below ∷ rest) (all_lists n) ++ map (λ rest. Above ∷ rest) (all_lists n)
 
--- three faces p, q, r with the values of (p,q), (p,r), (q,r) don't go round: p above q above r above p, or all three below
+-- three faces p, q, r with the values of (p,q), (p,r), (q,r) don't go round: not p above q above r above p,
+-- and not the other way round
 abbrev pub has_no_cycle : Order → Order → Order → Bool
 has_no_cycle Above Below Above = false
 has_no_cycle Below Above Below = false
@@ -31,15 +32,18 @@ both_or_neither true true = true
 both_or_neither false false = true
 both_or_neither s t = false
 
--- the pairs {a, b} and {c, d} don't interleave: c is above both of a and b or below both where d is, and between them where d is
+-- the pairs {a, b} and {c, d} don't interleave: c lies between a and b exactly where d does
 abbrev pub are_apart : Order → Order → Order → Order → Bool
 are_apart ac ad bc bd = both_or_neither (is_order ac bc) (is_order ad bd)
 
--- the values of (a,b), (a,c), (a,d), (b,c), (b,d), (c,d): the four lie in an order, in which the two pairs don't interleave
+-- the values of (a,b), (a,c), (a,d), (b,c), (b,d), (c,d): the four lie in an order, in which the two pairs
+-- don't interleave
 abbrev pub is_taco_row : Order → Order → Order → Order → Order → Order → Bool
-is_taco_row ab ac ad bc bd cd = has_no_cycle ab ac bc && has_no_cycle ab ad bd && has_no_cycle ac ad cd && has_no_cycle bc bd cd && are_apart ac ad bc bd
+is_taco_row ab ac ad bc bd cd = has_no_cycle ab ac bc && has_no_cycle ab ad bd && has_no_cycle ac ad cd
+    && has_no_cycle bc bd cd && are_apart ac ad bc bd
 
--- what the values of a constraint's terms are to be: an order of three faces; an order of four that keeps two pairs apart; equal
+-- what the values of a constraint's terms are to be: those of an order of three faces; those of an order of
+-- four in which two pairs don't interleave; equal
 abbrev pub is_row : Kind → List Order → Bool
 is_row Transitivity (pq ∷ pr ∷ qr ∷ []) = has_no_cycle pq pr qr
 is_row TacoTaco (ab ∷ ac ∷ ad ∷ bc ∷ bd ∷ cd ∷ []) = is_taco_row ab ac ad bc bd cd

@@ -8,7 +8,8 @@ use Rattle.ff_tables.specs.Rows.{arity}
 pub record IsFit (vars : ℕ) (con : Constraint) : Type 0 where
   pub terms : length con.terms ≡ arity con.kind
   pub within : (j : ℕ) → j < length con.terms → (term_at con.terms j).var < vars
-  pub differ : (i j : ℕ) → i < length con.terms → j < length con.terms → (term_at con.terms i).var ≡ (term_at con.terms j).var → i ≡ j
+  pub differ : (i j : ℕ) → i < length con.terms → j < length con.terms
+      → (term_at con.terms i).var ≡ (term_at con.terms j).var → i ≡ j
 
 abbrev pub AreFit : ℕ → List Constraint → Type 0
 AreFit vars cons = (c : ℕ) (con : Constraint) → slice_get cons c ≡ Some con → IsFit vars con

@@ -72,7 +72,8 @@ fn are_fit(vars: u32, constraints: &[Constraint]) -> bool
     true
 }
 
-/// The system, exactly where each constraint has as many terms as its kind, on different variables below `vars`.
+/// The system, exactly where each constraint has as many terms as its kind, on different variables below
+/// `vars`.
 pub fn system_of(vars: u32, constraints: Items<Constraint>) -> Option<System>
     ensures { IsSystemOf vars constraints result }
 {

@@ -73,8 +73,8 @@ fn first_forced<K: Known>(kind: Kind, terms: &[Term], known: &K, rows: u16) -> F
     Forced::Nothing
 }
 
-/// What the constraint forces from the known values: of the terms whose variable is unknown, the first that has one value in
-/// all rows that agree. It takes no memory.
+/// What the constraint forces from the known values: of the terms whose variable is unknown, the first that
+/// has one value in all rows that agree. It takes no memory.
 #[inline(always)]
 pub fn forced<K: Known>(constraint: &Constraint, known: &K) -> Forced
     requires terms { length constraint.now.terms ≡ arity constraint.now.kind }

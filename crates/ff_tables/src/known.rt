@@ -3,8 +3,8 @@ ghost use Rattle.std.specs.Prelude.{◌≡◌, ◌<◌};
 
 use crate::Order;
 
-/// Known values of variables. Contracts see a function from variables to what is known, and a bound on the variables that
-/// may be asked for.
+/// Known values of variables. Contracts see a function from variables to what is known, and a bound on the
+/// variables that may be asked for.
 pub trait Known {
     ghost use Rattle.std.specs.Prelude.{ℕ, Option};
     ghost use Rattle.ff_tables.specs.declared.orders.Order.{Order as OrderSpec};

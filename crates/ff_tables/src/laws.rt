@@ -4,9 +4,9 @@ ghost use Rattle.ff_tables.specs.declared.terms.Kind.TheVariants as kind;
 ghost use Rattle.ff_tables.specs.Rows.{rows_of};
 ghost use Rattle.ff_tables.specs.Listed.{three_values, orders_of_three, four_values, apart_orders};
 
-/// A law: the rows of transitivity are the values of the three pairs in the six orders of three faces, those of taco-taco the
-/// values of the six pairs in the sixteen orders of four faces in which two pairs don't interleave, and the other two kinds
-/// have two rows.
+/// A law: the rows of transitivity are the values of the three pairs in the six orders of three faces, those
+/// of taco-taco the values of the six pairs in the sixteen orders of four faces in which two pairs don't
+/// interleave, and the other two kinds have two rows.
 pub fn rows_are_orders()
     ensures transitivity { rows_of kind.Transitivity ≡ map three_values orders_of_three }
     ensures taco_taco { rows_of kind.TacoTaco ≡ map four_values apart_orders }

@@ -1,5 +1,5 @@
-//! What every layer shares: constraints on the orders of pairs of faces and what one of them forces, lists and texts that
-//! contracts compare as values, and want of memory.
+//! What every layer shares: constraints on the orders of pairs of faces and what one of them forces, lists
+//! and texts that contracts compare as values, and want of memory.
 #![tactic(auto)]
 
 mod fitting;

@@ -8,7 +8,8 @@ ghost use Rattle.ff_tables.specs.Masks.{base, side_of, mask_of, bits, OpenIs, On
 use crate::orders::{Order, turned};
 use crate::terms::Kind;
 
-// For each term the rows that have Below there, and those that have Above: of taco-taco, transitivity, and the equal rows.
+// For each term the rows that have Below there, and those that have Above: of taco-taco, transitivity, and
+// the equal rows.
 static MASKS: [u16; 22] = [
     255, 65280, 1823, 63712, 2863, 62672, 14099, 51436, 15139, 50396, 22885, 42650, //
     7, 56, 11, 52, 25, 38, //

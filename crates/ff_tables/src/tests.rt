@@ -52,7 +52,8 @@ fn system(
     Ok(system_of(count, Items::of(list)))
 }
 
-// What the first constraint forces from values of all variables, of which `.` is unknown, `-` below, `+` above.
+// What the first constraint forces from values of all variables, of which `.` is unknown, `-` below, `+`
+// above.
 fn forced_from(alloc: Global, system: &System, values: &str) -> Result<Option<Forced>, NoMemory> {
     let mut list = Vec::new(alloc);
     for byte in values.as_bytes() {

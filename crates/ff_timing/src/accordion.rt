@@ -1,5 +1,5 @@
-//! The system of an accordion of panels: all faces over one place, transitivity of each three, and a taco-taco of each two
-//! creases on one side.
+//! The system of an accordion of panels: all faces over one place, transitivity of each three, and a
+//! taco-taco of each two creases on one side.
 use anyhow::Result;
 use arrayvec::ArrayVec;
 use ff_tables::{Constraint, Given, GivenBy, Items, Kind, Order, Term, Terms};

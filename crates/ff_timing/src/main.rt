@@ -1,5 +1,5 @@
-//! Times what the crates do, on systems that it builds itself: `ff_timing close N`. What was done goes to standard output,
-//! the times to standard error.
+//! Times what the crates do, on systems that it builds itself: `ff_timing close N`. What was done goes to
+//! standard output, the times to standard error.
 #![tactic(auto)]
 
 mod accordion;

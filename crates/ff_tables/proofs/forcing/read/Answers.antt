@@ -14,10 +14,12 @@ loop-j-preserved g c =
     let t = term_at ts c.loop-j.j in
     let e : c.narrowed-rows.result ≡ bits (map (agrees_below ts f (suc c.loop-j.j)) (rows_of c.args.kind)) =
     c.narrowed-rows.ensures (agrees_below ts f c.loop-j.j) c.loop-j.invariant.0
-    ∙ ap (λ (o : Option Order). bits (map {A = List Order} {B = Bool} (λ row. agrees_below ts f c.loop-j.j row && fits (turned_option t.flipped o) (row_at row c.loop-j.j)) (rows_of c.args.kind))) c.value-value.ensures in
+    ∙ ap (λ (o : Option Order). bits (map {A = List Order} {B = Bool} (λ row. agrees_below ts f c.loop-j.j row
+    && fits (turned_option t.flipped o) (row_at row c.loop-j.j)) (rows_of c.args.kind))) c.value-value.ensures in
     let known : (h : IsTrue c.still_known-all_known.result) → (s : Order) × Knows f t.var s =
     λ h. let k = c.still_known-all_known.ensures h in (k.1.0, sym c.value-value.ensures ∙ k.1.1) in (
-      subst (λ n. c.narrowed-rows.result ≡ bits (map (agrees_below ts f n) (rows_of c.args.kind))) (sym (add-one c.loop-j.j)) e,
+      subst (λ n. c.narrowed-rows.result ≡ bits (map (agrees_below ts f n) (rows_of c.args.kind)))
+          (sym (add-one c.loop-j.j)) e,
       λ h. below_more _ _ (c.loop-j.invariant.1 (c.still_known-all_known.ensures h).0) (known h),
     )
 

@@ -8,7 +8,8 @@ use Rattle.ff_tables.specs.Masks.{side_of, bits, mask_of, base}
 use Rattle.ff_tables.proofs.masks.mask.Goals as goal
 
 abbrev masks : List ℕ
-masks = 255 ∷ 65280 ∷ 1823 ∷ 63712 ∷ 2863 ∷ 62672 ∷ 14099 ∷ 51436 ∷ 15139 ∷ 50396 ∷ 22885 ∷ 42650 ∷ 7 ∷ 56 ∷ 11 ∷ 52 ∷ 25 ∷ 38 ∷ 1 ∷ 2 ∷ 1 ∷ 2 ∷ []
+masks = 255 ∷ 65280 ∷ 1823 ∷ 63712 ∷ 2863 ∷ 62672 ∷ 14099 ∷ 51436 ∷ 15139 ∷ 50396 ∷ 22885 ∷ 42650 ∷ 7 ∷ 56 ∷ 11
+    ∷ 52 ∷ 25 ∷ 38 ∷ 1 ∷ 2 ∷ 1 ∷ 2 ∷ []
 
 -- the table, by computing
 below : (kind : Kind) (j : ℕ) → j < arity kind → slice_index_or masks (base kind + 2 * j + 0) 0 ≡ mask_of kind j Below
@@ -51,7 +52,8 @@ above Transitivity (suc zero) h = refl
 above Transitivity (suc (suc zero)) h = refl
 above Transitivity (suc (suc (suc j))) h = absurd (omega arith)
 
-either : (kind : Kind) (j : ℕ) (b : Order) → j < arity kind → slice_index_or masks (base kind + 2 * j + side_of b) 0 ≡ mask_of kind j b
+either : (kind : Kind) (j : ℕ) (b : Order) → j < arity kind
+    → slice_index_or masks (base kind + 2 * j + side_of b) 0 ≡ mask_of kind j b
 either kind j Below h = below kind j h
 either kind j Above h = above kind j h
 

@@ -3,11 +3,13 @@ use Rattle.ff_propagate.proofs.GivenSteps.{agreed_on, first_clash}
 use Rattle.ff_propagate.proofs.work.Work.give.Goals as goal
 
 pub returns-in-Some-clause-gave : goal.returns-in-Some-clause-gave
-returns-in-Some-clause-gave c = first_clash c.args.task.now.givens.now c.loop-i.i c.in-Some.first c.loop-i.self _ c.loop-i.invariant.1 c.loop-i.invariant.2 (slice_get-get_or _ _ _ c.loop-i-test.true) c.in-Some.ensures.gave
+returns-in-Some-clause-gave c = first_clash c.args.task.now.givens.now c.loop-i.i c.in-Some.first c.loop-i.self _
+    c.loop-i.invariant.1 c.loop-i.invariant.2 (slice_get-get_or _ _ _ c.loop-i-test.true) c.in-Some.ensures.gave
 
 pub loop-i-preserved : goal.loop-i-preserved
 loop-i-preserved c = (
   c.give_one.ensures.stand,
   c.give_one.ensures.gives,
-  agreed_on c.args.task.now.givens.now c.loop-i.i c.loop-i.self c.give_one.new.self _ c.give_one.ensures.extends c.loop-i.invariant.1 c.loop-i.invariant.2 (slice_get-get_or _ _ _ c.loop-i-test.true) c.in_default.ensures.gave,
+  agreed_on c.args.task.now.givens.now c.loop-i.i c.loop-i.self c.give_one.new.self _ c.give_one.ensures.extends
+      c.loop-i.invariant.1 c.loop-i.invariant.2 (slice_get-get_or _ _ _ c.loop-i-test.true) c.in_default.ensures.gave,
 )
