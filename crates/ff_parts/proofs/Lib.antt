@@ -2,3 +2,4 @@ pub mod Reaching
 pub mod Following
 pub mod Gathered
 pub mod Beginning
+pub mod Classes

@@ -4,3 +4,6 @@
 mod gathering;
 mod labelling;
 mod labels;
+mod finding;
+
+pub use finding::parts;

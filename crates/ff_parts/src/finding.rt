@@ -1,0 +1,38 @@
+//! The parts.
+ghost use Rattle.std.specs.Prelude.{◌≡◌, ◌<◌, ◌≤◌, ◌^◌, IfOk, length, map};
+ghost use Rattle.ff_propagate.specs.Facts.{value_at};
+ghost use Rattle.ff_propagate.specs.Parts.{AreParts};
+ghost use Rattle.ff_parts.specs.Gathers.{lists_in};
+ghost use Rattle.ff_parts.specs.Boards.{IsBoardOf, vars_of};
+
+use crate::gathering::gather;
+use crate::labels::Labels;
+use ff_propagate::{Facts, Part};
+use ff_tables::{Items, NoMemory, System};
+use std::alloc::Global;
+
+// Each list as a part.
+fn wrap(alloc: Global, lists: Vec<Vec<u32>>) -> Result<Vec<Part>, NoMemory>
+    ensures { IfOk result (λ parts. vars_of parts.items ≡ lists_in lists.items) }
+{
+    let mut parts = Vec::with_capacity(alloc, lists.len())?;
+    for list in lists {
+        parts.push_reserved(Part {
+            vars: Items::of(list),
+        });
+    }
+    Ok(parts)
+}
+
+/// The parts of what the facts leave undecided: the classes of the chain of links among undecided variables, where two undecided
+/// variables of one constraint are linked. Each has its variables in increasing order, and the parts are in order of their least
+/// variables.
+pub fn parts(alloc: Global, system: &System, facts: &Facts) -> Result<Items<Part>, NoMemory>
+    requires board { IsBoardOf system.now.vars system.now.constraints facts.now }
+    requires few { length system.now.constraints < 2 ^ 32 }
+    ensures parts { IfOk result (λ found. AreParts system.now.vars system.now.constraints (value_at facts.now) (vars_of found)) }
+{
+    let labels = Labels::all(alloc, system, facts)?;
+    let lists = gather(alloc, labels.part_of.as_slice(), labels.firsts.len())?;
+    Ok(Items::of(wrap(alloc, lists)?))
+}
