@@ -3,3 +3,4 @@ pub mod Following
 pub mod Gathered
 pub mod Beginning
 pub mod Classes
+pub mod Factoring

@@ -1,3 +1,4 @@
 pub mod Labels
 pub mod Gathers
 pub mod Boards
+pub mod Factors
