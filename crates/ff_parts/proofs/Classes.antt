@@ -108,3 +108,11 @@ labels_within vars cons value l is v = sort (label l v) refl
     sort : (n : ℕ) → label l v ≡ n → label l v ≤ length l.firsts.items
     sort zero e = omega (arith, e)
     sort (suc p) e = let r = is.reached v p e in omega (arith, e, r.0)
+
+-- the lists that were gathered are the parts
+pub found_parts : (vars : ℕ) (cons : List Constraint) (value : ℕ → Option Order) (l : Labels) (lists : List (List ℕ)) (labels : List ℕ) (many : ℕ) → IsBelow vars cons value vars l → labels ≡ l.part_of.items → many ≡ length l.firsts.items
+    → Gathers labels (length labels) many lists → AreParts vars cons value lists
+found_parts vars cons value l lists labels many is slice count g = are_parts vars cons value l lists is
+    (subst (λ n. Gathers l.part_of.items n (length l.firsts.items) lists) is.labelling.wide
+    (subst (λ m. Gathers l.part_of.items (length l.part_of.items) m lists) count
+    (subst (λ xs. Gathers xs (length xs) many lists) slice g)))

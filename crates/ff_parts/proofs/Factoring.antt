@@ -15,13 +15,13 @@ use Rattle.ff_tables.specs.Systems.{AreFit}
 use Rattle.ff_tables.specs.Forces.{Meets, SomeAgrees, NoneAgrees, Knows, Forces}
 use Rattle.ff_tables.proofs.Agreeing.{turn_turn}
 use Rattle.ff_propagate.specs.Closure.{InClosure, IsClosed, IsClosure, Gives, IsGiven, HoldsGivens, Clashes}
-use Rattle.ff_propagate.specs.Parts.{IsUndecided, IsPart, AreParts}
+use Rattle.ff_propagate.specs.Parts.{IsUndecided, AreConnected, IsPart, AreParts}
 use Rattle.ff_propagate.specs.Solutions.{has_row, joint, is_solution, solutions_of}
 use Rattle.ff_propagate.specs.Choices.{IsChoice, value_of, IsAssignmentOf}
 use Rattle.ff_propagate.proofs.Deciding.{has_row-decides, row_or_none}
 use Rattle.ff_propagate.proofs.Joining.{Stands, AreDistinct, joint_out, joint_at, joint_either, joint_keeps}
 use Rattle.ff_propagate.proofs.Quiet.{IsQuiet, closure_quiet, dead_forces, in_part, all_at, all_from, stands_contains, contains_stands}
-use Rattle.ff_parts.specs.Factors.{IsAllowed, HasAssignment, HasChoice, Factors}
+use Rattle.ff_parts.specs.Factors.{IsAllowed, HasAssignment, HasChoice, Factors, FactorsFor}
 
 turn_one : (b : Bool) (s t : Order) → turn b s ≡ turn b t → s ≡ t
 turn_one b s t e = sym (turn_turn b s) ∙ ap (turn b) e ∙ turn_turn b t
@@ -342,3 +342,46 @@ module _ (vars : ℕ) (cons : List Constraint) (value : ℕ → Option Order) (f
           told parts c all is_c a (λ v st. of_c v (in_some_within parts all v st)) ∙ sym (told parts d all is_d a (λ v st. of_d v (in_some_within parts all v st)));
       none = λ part has empty a allowed. has_solution parts (restricted gs exact parts all covers a parts) (restricted_choice gs exact parts all covers a allowed parts) part has empty;
     }
+
+-- from the list of parts by number
+shows : (ps : List (List ℕ)) (v : ℕ) → InSome ps v → (k : ℕ) × (part : List ℕ) × (slice_get ps k ≡ Some part) × Stands part v
+shows [] v st = absurd st
+shows (part ∷ ps) v (inl st) = (0, part, refl, st)
+shows (part ∷ ps) v (inr st) = let r = shows ps v st in (suc r.0, r.1, r.2, r.3)
+
+in_some : (ps : List (List ℕ)) (v k : ℕ) (part : List ℕ) → slice_get ps k ≡ Some part → Stands part v → InSome ps v
+in_some [] v k part e st = cc
+in_some (p ∷ ps) v zero part e st = inl (subst (λ q. Stands q v) (same p part e) st)
+  where
+    same : (a b : List ℕ) → Some a ≡ Some b → b ≡ a
+    same a b e = cc
+in_some (p ∷ ps) v (suc k) part e st = inr (in_some ps v k part e st)
+
+all_parts : (vars : ℕ) (cons : List Constraint) (value : ℕ → Option Order) (ps : List (List ℕ)) → ((k : ℕ) (part : List ℕ) → slice_get ps k ≡ Some part → IsPart vars cons value part)
+    → ((k m : ℕ) (p q : List ℕ) → k < m → slice_get ps k ≡ Some p → slice_get ps m ≡ Some q → (v : ℕ) → Stands p v → Stands q v → ⊥) → AllParts vars cons value ps
+all_parts vars cons value [] each apart = tt
+all_parts vars cons value (part ∷ ps) each apart = (each 0 part refl,
+    (λ v st later. let r = shows ps v later in apart 0 (suc r.0) part r.1 (omega arith) refl r.2 v st r.3),
+    all_parts vars cons value ps (λ k p e. each (suc k) p e) (λ k m p q l e f. apart (suc k) (suc m) p q (omega (arith, l)) e f))
+
+first_least : (vars : ℕ) (cons : List Constraint) (value : ℕ → Option Order) (p : List ℕ) → IsPart vars cons value p → (v : ℕ) → Stands p v → slice_index p 0 ≤ v
+first_least vars cons value p is v (zero, l, e) = omega (arith, e)
+first_least vars cons value p is v (suc i, l, e) = let r = is.rising 0 (suc i) (omega arith) l in omega (arith, r, e)
+
+-- two parts have no variable in common
+parts_apart : (vars : ℕ) (cons : List Constraint) (value : ℕ → Option Order) (p q : List ℕ) → IsPart vars cons value p → IsPart vars cons value q → slice_index p 0 < slice_index q 0 → (v : ℕ) → Stands p v → Stands q v → ⊥
+parts_apart vars cons value p q is_p is_q less v (i, li, ei) (j, lj, ej) =
+    let p_open : IsUndecided vars value (slice_index p 0) = is_p.undecided 0 is_p.some in
+    let q_open : IsUndecided vars value (slice_index q 0) = is_q.undecided 0 is_q.some in
+    -- the first of q is connected to v, and so is that of p
+    let to_q = (is_q.class j (slice_index q 0) lj q_open).1 (stands_contains q (slice_index q 0) (0, is_q.some, refl)) in
+    let to_p = (is_p.class i (slice_index p 0) li p_open).1 (stands_contains p (slice_index p 0) (0, is_p.some, refl)) in
+    let q_in_p = (is_p.class i (slice_index q 0) li q_open).0 (subst (λ u. AreConnected vars cons value u (slice_index q 0)) (ej ∙ sym ei) to_q) in
+    let p_in_q = (is_q.class j (slice_index p 0) lj p_open).0 (subst (λ u. AreConnected vars cons value u (slice_index p 0)) (ei ∙ sym ej) to_p) in
+    let b = first_least vars cons value q is_q (slice_index p 0) (contains_stands q (slice_index p 0) p_in_q) in
+    omega (arith, less, b)
+
+pub parts_factor : (vars : ℕ) (cons : List Constraint) (value : ℕ → Option Order) (parts : List (List ℕ)) → AreFit vars cons → AreParts vars cons value parts → FactorsFor vars cons value parts
+parts_factor vars cons value parts fit are gs exact = factors vars cons value fit parts
+    (all_parts vars cons value parts are.each (λ k m p q l e f. parts_apart vars cons value p q (are.each k p e) (are.each m q f) (are.sorted k m p q l e f)))
+    (λ v o. let r = are.all v o in in_some parts v r.0 r.1 r.2 (contains_stands r.1 v r.3)) gs exact

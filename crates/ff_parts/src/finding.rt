@@ -4,6 +4,7 @@ ghost use Rattle.ff_propagate.specs.Facts.{value_at};
 ghost use Rattle.ff_propagate.specs.Parts.{AreParts};
 ghost use Rattle.ff_parts.specs.Gathers.{lists_in};
 ghost use Rattle.ff_parts.specs.Boards.{IsBoardOf, vars_of};
+ghost use Rattle.ff_parts.specs.Factors.{FactorsFor};
 
 use crate::gathering::gather;
 use crate::labels::Labels;
@@ -27,10 +28,14 @@ fn wrap(alloc: Global, lists: Vec<Vec<u32>>) -> Result<Vec<Part>, NoMemory>
 /// The parts of what the facts leave undecided: the classes of the chain of links among undecided variables, where two undecided
 /// variables of one constraint are linked. Each has its variables in increasing order, and the parts are in order of their least
 /// variables.
+///
+/// Choices of one solution of each part correspond one-to-one to the assignments that meet the system and hold the givens of
+/// which the facts are the closure. Where a part has no solution there is no such assignment.
 pub fn parts(alloc: Global, system: &System, facts: &Facts) -> Result<Items<Part>, NoMemory>
     requires board { IsBoardOf system.now.vars system.now.constraints facts.now }
     requires few { length system.now.constraints < 2 ^ 32 }
     ensures parts { IfOk result (λ found. AreParts system.now.vars system.now.constraints (value_at facts.now) (vars_of found)) }
+    ensures factors { IfOk result (λ found. FactorsFor system.now.vars system.now.constraints (value_at facts.now) (vars_of found)) }
 {
     let labels = Labels::all(alloc, system, facts)?;
     let lists = gather(alloc, labels.part_of.as_slice(), labels.firsts.len())?;
