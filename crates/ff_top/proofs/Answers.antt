@@ -1,13 +1,14 @@
 -- The answer to words and input is one.
-use Rattle.std.proofs.Common.{◌≡◌, ◌∙◌, ℕ, List, Option, None, Some, refl, ap, sym, subst, arith}
+use Rattle.std.proofs.Common.{◌≡◌, ◌<◌, ◌∙◌, ℕ, List, length, Option, None, Some, refl, ap, sym, subst, arith}
 use Rattle.serde_json.specs.Data.{Data}
-use Rattle.ff_top.specs.Answer.{IsAnswer}
+use Rattle.ff_top.specs.Answer.{IsAnswer, solve_words}
 use Rattle.ff_top.specs.Sheet.{IsRefused, IsSheet, SpellsSheet}
-use Rattle.ff_top.specs.Spelling.{object_of}
+use Rattle.ff_read.specs.Spelling.{object_of}
 use Rattle.ff_top.specs.Texts.{refusal_line, report}
-use Rattle.ff_top.specs.declared.patterns.Pattern.{Pattern}
-use Rattle.ff_top.specs.declared.refusals.Refusal.{Refusal}
-use Rattle.ff_top.specs.declared.refusals.Refusal.TheVariants.{TooLong, NotJson, NotYet}
+use Rattle.ff_types.specs.declared.limits.TheConstants.{MOST_BYTES}
+use Rattle.ff_types.specs.declared.patterns.Pattern.{Pattern}
+use Rattle.ff_types.specs.declared.refusals.Refusal.{Refusal}
+use Rattle.ff_types.specs.declared.refusals.Refusal.TheVariants.{TooLong, NotJson, BadKey, BadVertex, FarVertex, BadEdge, BadMark, SamePoint, Crossing, Loose, Rim, Pinch, Reflex, Enclosed, Apart, Parity, Inconsistent, Oversized, TooMany, BadScript, NotYet}
 use Rattle.ff_top.specs.declared.status.Status.{Status}
 use Rattle.ff_top.specs.declared.status.Status.TheVariants.{Done, Impossible, Refused, Unfinished, ReadFault, WriteFault, NoMemory, Usage}
 
@@ -27,6 +28,25 @@ one_refusal input NotJson NotYet a b = absurd (not_none (object_of input) b.1 a.
 one_refusal input NotYet TooLong a b = absurd (omega (arith, a.0, b))
 one_refusal input NotYet NotJson a b = absurd (not_none (object_of input) a.1 b.1 a.2)
 one_refusal input NotYet NotYet a b = refl
+one_refusal input (BadKey k) r a b = absurd a
+one_refusal input (BadVertex v) r a b = absurd a
+one_refusal input (FarVertex v) r a b = absurd a
+one_refusal input (BadEdge e) r a b = absurd a
+one_refusal input (BadMark e) r a b = absurd a
+one_refusal input (SamePoint v) r a b = absurd a
+one_refusal input (Crossing e k) r a b = absurd a
+one_refusal input (Loose v) r a b = absurd a
+one_refusal input (Rim e) r a b = absurd a
+one_refusal input (Pinch v) r a b = absurd a
+one_refusal input (Reflex v) r a b = absurd a
+one_refusal input (Enclosed v) r a b = absurd a
+one_refusal input (Apart f) r a b = absurd a
+one_refusal input (Parity e) r a b = absurd a
+one_refusal input (Inconsistent v) r a b = absurd a
+one_refusal input (Oversized v) r a b = absurd a
+one_refusal input (TooMany w n) r a b = absurd a
+one_refusal input (BadScript w n) r a b = absurd a
+one_refusal input q r a b = absurd b
 
 not_refused : (input : List ℕ) (r : Refusal) (p : Pattern) → IsRefused input r → SpellsSheet input p → ⊥
 not_refused input TooLong p a s = omega (arith, a, s.within)
@@ -35,6 +55,7 @@ not_refused input NotYet p a s =
     let same : s.object ≡ a.1 = one_value (object_of input) s.object a.1 s.read a.2 in
     let sheet : IsSheet a.1 p = subst (λ (d : Data). IsSheet d p) same s.sheet in
     a.3.none p sheet
+not_refused input r p a s = absurd a
 
 -- the corners of a sheet are those that the bytes spell
 one_report : (input : List ℕ) (p q : Pattern) → SpellsSheet input p → SpellsSheet input q → report p.points ≡ report q.points
@@ -76,3 +97,8 @@ one_status words input ReadFault t x y a b = absurd a
 one_status words input WriteFault t x y a b = absurd a
 one_status words input NoMemory t x y a b = absurd a
 one_status words input s t x y a b = absurd b
+
+-- the answer to too many bytes
+pub too_long : (words : List (List ℕ)) (input : List ℕ) (s : Status) (text : List ℕ) → words ≡ solve_words → MOST_BYTES < length input → (s ≡ Refused) × (text ≡ refusal_line TooLong)
+    → IsAnswer words input s text
+too_long words input s text w l e = rw e.0 (w, TooLong, l, e.1)

@@ -1,7 +1,6 @@
 pub mod Apart
 pub mod Lists
 pub mod Pieces
-pub mod Objects
 pub mod Answers
 pub mod Runs
 pub mod Totality

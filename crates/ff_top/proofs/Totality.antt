@@ -3,12 +3,12 @@ use Rattle.std.proofs.Common.{◌≡◌, ◌<◌, ◌≤◌, ◌⊎◌, inl, inr
 use Rattle.serde_json.specs.Data.{Data}
 use Rattle.ff_top.specs.Answer.{IsAnswer}
 use Rattle.ff_top.specs.Sheet.{IsRefused, SpellsSheet}
-use Rattle.ff_top.specs.Spelling.{object_of}
+use Rattle.ff_read.specs.Spelling.{object_of}
 use Rattle.ff_top.specs.Texts.{usage_line, refusal_line, report}
-use Rattle.ff_top.specs.declared.limits.TheConstants.{MOST_BYTES}
-use Rattle.ff_top.specs.declared.patterns.Pattern.{Pattern}
-use Rattle.ff_top.specs.declared.refusals.Refusal.{Refusal}
-use Rattle.ff_top.specs.declared.refusals.Refusal.TheVariants.{TooLong, NotJson, NotYet}
+use Rattle.ff_types.specs.declared.limits.TheConstants.{MOST_BYTES}
+use Rattle.ff_types.specs.declared.patterns.Pattern.{Pattern}
+use Rattle.ff_types.specs.declared.refusals.Refusal.{Refusal}
+use Rattle.ff_types.specs.declared.refusals.Refusal.TheVariants.{TooLong, NotJson, NotYet}
 use Rattle.ff_top.specs.declared.status.Status.{Status}
 use Rattle.ff_top.specs.declared.status.Status.TheVariants.{Done, Refused, Usage}
 

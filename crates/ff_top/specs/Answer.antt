@@ -3,8 +3,8 @@ use Rattle.std.specs.Prelude.{ℕ, ◌≡◌, ◌⊎◌, IfSome, List, [], ◌�
 use Rattle.ff_top.specs.Texts.{usage_line, refusal_line, report}
 use Rattle.ff_top.specs.Sheet.{SpellsSheet, IsRefused}
 use Rattle.ff_top.specs.Transfer.{Tells, Got, GotFront, GotPart}
-use Rattle.ff_top.specs.declared.patterns.Pattern.{Pattern}
-use Rattle.ff_top.specs.declared.refusals.Refusal.{Refusal}
+use Rattle.ff_types.specs.declared.patterns.Pattern.{Pattern}
+use Rattle.ff_types.specs.declared.refusals.Refusal.{Refusal}
 use Rattle.ff_top.specs.declared.status.Status.{Status}
 use Rattle.ff_top.specs.declared.status.Status.TheVariants.{Done, Refused, ReadFault, WriteFault, NoMemory, Usage}
 

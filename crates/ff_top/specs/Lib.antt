@@ -1,7 +1,4 @@
 pub mod Statuses
-pub mod Patterns
-pub mod Refusals
-pub mod Spelling
 pub mod Plain
 pub mod Sheet
 pub mod Texts

@@ -4,11 +4,11 @@ use Rattle.std.specs.List.{All}
 use Rattle.ff_whole.specs.declared.points.Pt.{Pt}
 use Rattle.ff_whole.specs.Points.{IsNear}
 use Rattle.ff_whole.specs.Convex.{next, AreApart, IsConvex}
-use Rattle.ff_top.specs.declared.limits.TheConstants.{MOST_VERTICES}
-use Rattle.ff_top.specs.declared.patterns.EdgeEnds.{EdgeEnds}
-use Rattle.ff_top.specs.declared.patterns.Mark.{Mark}
-use Rattle.ff_top.specs.declared.patterns.Mark.TheVariants.{B}
-use Rattle.ff_top.specs.Patterns.{edge_at}
+use Rattle.ff_types.specs.declared.limits.TheConstants.{MOST_VERTICES}
+use Rattle.ff_types.specs.declared.patterns.EdgeEnds.{EdgeEnds}
+use Rattle.ff_types.specs.declared.patterns.Mark.{Mark}
+use Rattle.ff_types.specs.declared.patterns.Mark.TheVariants.{B}
+use Rattle.ff_types.specs.Patterns.{edge_at}
 
 -- the edges join each of n vertices to the next, the last to the first
 pub record AreRing (n : ℕ) (edges : List EdgeEnds) : Type 0 where

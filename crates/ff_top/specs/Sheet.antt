@@ -1,14 +1,14 @@
 -- Which plain sheet the bytes spell, and why they are refused.
 use Rattle.std.specs.Prelude.{ℕ, ◌≡◌, ◌<◌, ◌≤◌, List, length, None, Some}
 use Rattle.serde_json.specs.Data.{Data}
-use Rattle.ff_top.specs.Spelling.{object_of, Spells}
+use Rattle.ff_read.specs.Spelling.{object_of, Spells}
 use Rattle.ff_top.specs.Plain.{IsPlain}
-use Rattle.ff_top.specs.declared.limits.TheConstants.{MOST_BYTES}
-use Rattle.ff_top.specs.declared.patterns.Pattern.{Pattern}
-use Rattle.ff_top.specs.declared.refusals.Refusal.{Refusal}
-use Rattle.ff_top.specs.declared.refusals.Refusal.TheVariants.{TooLong, NotJson, NotYet}
-use Rattle.ff_top.specs.declared.refusals.No.{No}
-use Rattle.ff_top.specs.declared.refusals.No.TheVariants as no
+use Rattle.ff_types.specs.declared.limits.TheConstants.{MOST_BYTES}
+use Rattle.ff_types.specs.declared.patterns.Pattern.{Pattern}
+use Rattle.ff_types.specs.declared.refusals.Refusal.{Refusal}
+use Rattle.ff_types.specs.declared.refusals.Refusal.TheVariants.{TooLong, NotJson, NotYet}
+use Rattle.ff_types.specs.declared.refusals.No.{No}
+use Rattle.ff_types.specs.declared.refusals.No.TheVariants as no
 
 -- the object spells this plain sheet
 pub record IsSheet (d : Data) (p : Pattern) : Type 0 where
@@ -31,6 +31,7 @@ abbrev pub IsRefused : List ℕ → Refusal → Type 0
 IsRefused bytes TooLong = MOST_BYTES < length bytes
 IsRefused bytes NotJson = (length bytes ≤ MOST_BYTES) × (object_of bytes ≡ None)
 IsRefused bytes NotYet = (length bytes ≤ MOST_BYTES) × (d : Data) × (object_of bytes ≡ Some d) × IsNoSheet d
+IsRefused bytes r = ⊥
 
 -- why nothing was read
 abbrev pub IsReason : List ℕ → No → Type 0

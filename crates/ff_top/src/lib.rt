@@ -1,11 +1,7 @@
 //! The program's top call: words, a source and a sink to a status.
 #![tactic(auto)]
 
-pub mod limits;
-pub mod patterns;
 pub mod plain;
-pub mod reading;
-pub mod refusals;
 pub mod status;
 #[cfg(test)]
 mod tests;

@@ -5,14 +5,12 @@ ghost use Rattle.serde_json.specs.View.{view};
 ghost use Rattle.ff_whole.specs.Points.{IsNear};
 ghost use Rattle.ff_whole.specs.Convex.{AreApart};
 ghost use Rattle.ff_top.specs.Plain.{AreRing, AreBorder, IsPlain};
-ghost use Rattle.ff_top.specs.Refusals.{IsNotYet};
+ghost use Rattle.ff_types.specs.Refusals.{IsNotYet};
 ghost use Rattle.ff_top.specs.Sheet.{IsSheet, IsNoSheet, SpellsSheet, IsReason};
 
-use crate::limits::{MOST_BYTES, MOST_VERTICES};
-use crate::patterns::{EdgeEnds, Mark, Pattern};
-use crate::reading::{list_at, optional_list_at, read_object};
-use crate::refusals::{No, Refusal};
+use ff_read::{list_at, optional_list_at, read_object};
 use ff_tables::{Items, NoMemory};
+use ff_types::{EdgeEnds, MOST_BYTES, MOST_VERTICES, Mark, No, Pattern, Refusal};
 use ff_whole::{Pt, is_convex, next_place};
 use serde_json::Value;
 use std::alloc::Global;

@@ -1,6 +1,8 @@
 use crate::status::Status;
+use crate::texts::refusal_text;
 use crate::top::run_alone;
 use ff_outside::{MemSink, MemSource, SteadySink, SteadySource};
+use ff_types::{Key, Refusal, What};
 use std::alloc::{AllocError, Global};
 use std::test::Fail;
 
@@ -65,6 +67,41 @@ fn each_input_has_its_answer(rt: HostRuntime) -> Result<(), Fail> {
         let got = run_alone(alloc, words.as_slice(), &mut source, &mut sink);
         assert_eq!(rt; got, status, "{input}");
         assert_eq!(rt; sink.bytes(), text.as_bytes(), "{input}");
+    }
+    Ok(())
+}
+
+#[test]
+fn each_refusal_has_its_line(rt: HostRuntime) -> Result<(), Fail> {
+    let alloc = rt.alloc();
+    let most = Refusal::TooMany {
+        what: What::Vertices,
+        limit: 4096,
+    };
+    let rows = [
+        (
+            Refusal::BadKey {
+                key: Key::VerticesCoords,
+            },
+            "refused 3 bad key vertices_coords\n",
+        ),
+        (Refusal::BadVertex { v: 2 }, "refused 4 bad vertex 2\n"),
+        (
+            Refusal::Crossing { e: 4, e2: 5 },
+            "refused 9 crossing 4 5\n",
+        ),
+        (Refusal::Apart { face: 1 }, "refused 15 apart 1\n"),
+        (Refusal::Parity { e: 7 }, "refused 16 parity 7\n"),
+        (most, "refused 19 too many vertices 4096\n"),
+        (
+            Refusal::BadScript { viewer: 0, line: 3 },
+            "refused 20 bad script 0 3\n",
+        ),
+        (Refusal::NotYet, NOT_YET),
+    ];
+    for (refusal, line) in rows {
+        let text = refusal_text(alloc, &refusal)?;
+        assert_eq!(rt; text.as_str(), line);
     }
     Ok(())
 }

@@ -1,12 +1,12 @@
 //! The texts that the program writes.
 ghost use Rattle.std.specs.Prelude.{◌≡◌, ◌++◌, pos, List, IfOk, OnOk, string_bytes};
+ghost use Rattle.std.specs.Fmt.{decimal};
 ghost use Rattle.std.specs.List.{flat_map};
-ghost use Rattle.ff_top.specs.Texts.{usage_line, refusal_line, report};
+ghost use Rattle.ff_top.specs.Texts.{usage_line, key_name, what_name, spaced, refusal_name, refusal_place, refusal_line, report};
 ghost use Rattle.ff_top.specs.Texts.{counts_line, corner_text, face_line, parts_line, last_line};
 
-use crate::patterns::Pattern;
-use crate::refusals::Refusal;
 use ff_tables::{NoMemory, Text};
+use ff_types::{Key, Pattern, Refusal, What};
 use ff_whole::Pt;
 use std::alloc::{AllocError, Global};
 
@@ -25,16 +25,114 @@ pub fn usage_text(alloc: Global) -> Result<Text, NoMemory>
     Ok(Text::of(String::from_str(alloc, "usage: flatfold solve\n")?))
 }
 
-/// The one line for a refused input.
+fn name_of_key(key: Key) -> &'static str
+    ensures { result.now ≡ key_name key }
+{
+    match key {
+        Key::Fold => "fold",
+        Key::VerticesCoords => "vertices_coords",
+        Key::EdgesVertices => "edges_vertices",
+        Key::EdgesAssignment => "edges_assignment",
+        Key::Pins => "pins",
+        Key::Log => "log",
+        Key::Viewers => "viewers",
+    }
+}
+
+fn name_of_what(what: What) -> &'static str
+    ensures { result.now ≡ what_name what }
+{
+    match what {
+        What::Vertices => "vertices",
+        What::Edges => "edges",
+        What::Pins => "pins",
+        What::Viewers => "viewers",
+        What::Commands => "commands",
+        What::Faces => "faces",
+        What::Cells => "cells",
+        What::Entries => "entries",
+        What::Pairs => "pairs",
+        What::Constraints => "constraints",
+    }
+}
+
+// The number and the name of a refusal.
+fn name_of_refusal(refusal: Refusal) -> &'static str
+    ensures { result.now ≡ refusal_name refusal }
+{
+    match refusal {
+        Refusal::TooLong => "1 too long",
+        Refusal::NotJson => "2 not json",
+        Refusal::BadKey { .. } => "3 bad key",
+        Refusal::BadVertex { .. } => "4 bad vertex",
+        Refusal::FarVertex { .. } => "5 far vertex",
+        Refusal::BadEdge { .. } => "6 bad edge",
+        Refusal::BadMark { .. } => "7 bad mark",
+        Refusal::SamePoint { .. } => "8 same point",
+        Refusal::Crossing { .. } => "9 crossing",
+        Refusal::Loose { .. } => "10 loose",
+        Refusal::Rim { .. } => "11 rim",
+        Refusal::Pinch { .. } => "12 pinch",
+        Refusal::Reflex { .. } => "13 reflex",
+        Refusal::Enclosed { .. } => "14 enclosed",
+        Refusal::Apart { .. } => "15 apart",
+        Refusal::Parity { .. } => "16 parity",
+        Refusal::Inconsistent { .. } => "17 inconsistent",
+        Refusal::Oversized { .. } => "18 oversized",
+        Refusal::TooMany { .. } => "19 too many",
+        Refusal::BadScript { .. } => "20 bad script",
+        Refusal::NotYet => "0 not yet",
+    }
+}
+
+fn push_number(text: &mut String, n: u32) -> Result<(), AllocError>
+    ensures { OnOk result (string_bytes text.new ≡ string_bytes text.old ++ spaced (decimal n)) }
+{
+    write!(text, " {n}")
+}
+
+fn push_two(text: &mut String, m: u32, n: u32) -> Result<(), AllocError>
+    ensures { OnOk result (string_bytes text.new ≡ string_bytes text.old ++ spaced (decimal m) ++ spaced (decimal n)) }
+{
+    write!(text, " {m} {n}")
+}
+
+// Where a refusal comes.
+fn push_place(text: &mut String, refusal: Refusal) -> Result<(), AllocError>
+    ensures { OnOk result (string_bytes text.new ≡ string_bytes text.old ++ refusal_place refusal) }
+{
+    match refusal {
+        Refusal::TooLong | Refusal::NotJson | Refusal::NotYet => Ok(()),
+        Refusal::BadKey { key } => write!(text, " {}", name_of_key(key)),
+        Refusal::TooMany { what, limit } => write!(text, " {} {limit}", name_of_what(what)),
+        Refusal::Crossing { e, e2 } => push_two(text, e, e2),
+        Refusal::BadScript { viewer, line } => push_two(text, viewer, line),
+        Refusal::BadVertex { v }
+        | Refusal::FarVertex { v }
+        | Refusal::SamePoint { v }
+        | Refusal::Loose { v }
+        | Refusal::Pinch { v }
+        | Refusal::Reflex { v }
+        | Refusal::Enclosed { v }
+        | Refusal::Inconsistent { v }
+        | Refusal::Oversized { v } => push_number(text, v),
+        Refusal::BadEdge { e }
+        | Refusal::BadMark { e }
+        | Refusal::Rim { e }
+        | Refusal::Parity { e } => push_number(text, e),
+        Refusal::Apart { face } => push_number(text, face),
+    }
+}
+
+/// The one line for a refused input: its number, its name, and where it comes.
 pub fn refusal_text(alloc: Global, refusal: &Refusal) -> Result<Text, NoMemory>
     ensures { IfOk result (λ text. text ≡ refusal_line refusal.now) }
 {
-    let line = match refusal {
-        Refusal::TooLong => "refused 1 too long\n",
-        Refusal::NotJson => "refused 2 not json\n",
-        Refusal::NotYet => "refused 0 not yet\n",
-    };
-    Ok(Text::of(String::from_str(alloc, line)?))
+    let mut text = String::new(alloc);
+    write!(text, "refused {}", name_of_refusal(*refusal))?;
+    push_place(&mut text, *refusal)?;
+    text.push_str("\n")?;
+    Ok(Text::of(text))
 }
 
 fn push_counts(

@@ -6,14 +6,13 @@ ghost use Rattle.ff_top.specs.Transfer.{Tells, IsReadOff};
 ghost use Rattle.ff_top.specs.Answer.{IsAnswer, IsRun, IsAnswered, IsComplete, OneAnswer, SomeAnswer, solve_words};
 ghost use Rattle.ff_top.specs.Texts.{refusal_line};
 
-use crate::limits::MOST_BYTES;
 use crate::plain::read_sheet;
-use crate::refusals::{No, Refusal};
 use crate::status::Status;
 use crate::texts::{refusal_text, report_text, usage_text};
 use crate::transfer::{Input, ReadNo, read_all, write_all};
 use ff_outside::{Sink, Source};
 use ff_tables::{NoMemory, Text};
+use ff_types::{MOST_BYTES, No, Refusal};
 use std::alloc::Global;
 
 // What is to be written, and the status then.

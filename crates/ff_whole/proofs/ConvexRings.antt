@@ -5,12 +5,12 @@ use Rattle.std.proofs.lemmas.Int.{by_lt_z}
 use Rattle.std.proofs.lemmas.Bool.{cases_lt}
 use Rattle.std.proofs.lemmas.Bool.Decides.{eqb_tells}
 use Rattle.ff_whole.proofs.Signs.{linear, by_sign}
-use Rattle.ff_whole.proofs.Directions.{minus, rank-minus, turn-cross, turn-same, left_turn, no_left_turn, flat}
+use Rattle.ff_whole.proofs.Directions.{rank-minus, turn-cross, turn-same, left_turn, no_left_turn, flat}
 use Rattle.ff_whole.proofs.ClosedLists.{next-below, next-apart, next-alone, walk, walk-below, walk-full, walk-last, walk-back, walk-to}
 use Rattle.ff_whole.proofs.Ranks.{rank-same}
 use Rattle.ff_whole.proofs.Turning.{side, IsTurning, turning_left}
 use Rattle.ff_whole.specs.declared.points.Pt.{Pt}
-use Rattle.ff_whole.specs.Points.{IsNear, turn, origin}
+use Rattle.ff_whole.specs.Points.{minus, IsNear, turn, origin}
 use Rattle.ff_whole.specs.Convex.{next, point_at, left_of, AreApart, IsConvex}
 use Rattle.ff_whole.specs.Turning.{rank, AreCorners}
 

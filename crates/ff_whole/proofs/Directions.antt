@@ -6,16 +6,8 @@ use Rattle.ff_whole.proofs.Ring.{Expr, var, num, ◌⊕◌, ◌⊖◌, ◌⊗◌
 use Rattle.ff_whole.proofs.Signs.{linear, pos-mul, nonneg-mul, nonneg-mul_nonpos, nonneg_from_mul, square_pos, zero_product}
 use Rattle.ff_whole.specs.declared.points.Pt.{Pt}
 use Rattle.ff_whole.specs.declared.sizes.TheConstants.{POINT_SIZE}
-use Rattle.ff_whole.specs.Points.{turn}
+use Rattle.ff_whole.specs.Points.{minus, cross, turn}
 use Rattle.ff_whole.specs.Turning.{rank}
-
--- the direction to q from p
-abbrev pub minus : Pt → Pt → Pt
-minus q p = record { x = q.x -ℤ p.x; y = q.y -ℤ p.y }
-
--- positive where v is to the left of u
-abbrev pub cross : Pt → Pt → ℤ
-cross u v = u.x *ℤ v.y -ℤ u.y *ℤ v.x
 
 -- ---- the formulas once more, as expressions
 

@@ -2,6 +2,9 @@ pub mod Laws
 pub mod Ring
 pub mod Signs
 pub mod Bounds
+pub mod Formulas
+pub mod Reducing
+pub mod LinesMeeting
 pub mod PointOrder
 pub mod Directions
 pub mod Ranks

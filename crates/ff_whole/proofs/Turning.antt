@@ -5,9 +5,9 @@ use Rattle.std.proofs.Math.Nat.{eq-or-lt_of_le}
 use Rattle.std.proofs.lemmas.Int.{by_lt_z}
 use Rattle.std.proofs.lemmas.Bool.{cases_lt}
 use Rattle.ff_whole.proofs.Signs.{linear, by_sign, pos-mul, neg-mul_neg, pos-mul_neg, neg-mul_pos}
-use Rattle.ff_whole.proofs.Directions.{minus, cross, cross-self, cross-swap, turn-step, turn-first, left_of_left, right_of_right}
+use Rattle.ff_whole.proofs.Directions.{cross-self, cross-swap, turn-step, turn-first, left_of_left, right_of_right}
 use Rattle.ff_whole.specs.declared.points.Pt.{Pt}
-use Rattle.ff_whole.specs.Points.{turn}
+use Rattle.ff_whole.specs.Points.{minus, cross, turn}
 use Rattle.ff_whole.specs.Turning.{rank}
 
 abbrev pub side : (ℕ → Pt) → ℕ → Pt

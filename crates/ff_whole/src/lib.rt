@@ -1,10 +1,23 @@
-//! Exact plane geometry in whole numbers: points, and on which side of a line they lie.
+//! Exact plane geometry in whole numbers: points, lines, places where lines meet, and how they lie to each other.
 #![tactic(auto)]
 
 mod convex;
+mod divisors;
+mod heights;
+mod lines;
+mod meeting;
+mod places;
 mod points;
 mod sizes;
 
 pub use convex::{is_convex, next_place};
+pub use divisors::gcd;
+pub use heights::{cmp_height, corner};
+pub use lines::{Line, side_of, through};
+pub use meeting::meet;
+pub use places::{Place, cmp_x};
 pub use points::{Pt, orient};
-pub use sizes::POINT_SIZE;
+pub use sizes::{
+    CORNER_SIZE, CORNER_WEIGHT, MEET_SIZE, MEET_WEIGHT, OFFSET_SIZE, PLACE_SIZE, PLACE_WEIGHT,
+    POINT_SIZE, SLOPE_SIZE,
+};

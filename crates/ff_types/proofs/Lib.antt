@@ -1,0 +1,21 @@
+pub mod SortedPairs
+pub mod Members
+pub mod Named
+pub mod Computing
+pub mod ComputedDrawings
+pub mod ComputedFaces
+pub mod ComputedFoldings
+mod DrawingTests
+mod FaceTests
+mod FoldingTests
+mod SheetTests
+mod CiteTests
+mod PlacingTests
+pub mod Memberships
+pub mod TwoFaces
+pub mod FewFaces
+pub mod StackingTests
+mod CaseTests
+mod DegenerateTests
+pub mod PairOrder
+pub mod Starts

@@ -1,0 +1,22 @@
+//! Crease patterns, their faces and foldings, the case of constraints that they give, and why an input is refused.
+#![tactic(auto)]
+
+mod cases;
+mod cites;
+mod faces;
+mod limits;
+mod pairs;
+mod patterns;
+mod pins;
+mod refusals;
+#[cfg(test)]
+mod tests;
+
+pub use cases::{Case, case_of};
+pub use cites::{Cite, Listed};
+pub use faces::{EdgeSides, Faces, Folded};
+pub use limits::{MOST_BYTES, MOST_EDGES, MOST_VERTICES};
+pub use pairs::{Pairs, pairs_of};
+pub use patterns::{EdgeEnds, Mark, Pattern};
+pub use pins::Pin;
+pub use refusals::{Key, No, Refusal, What};

@@ -1,0 +1,33 @@
+//! Greatest common divisors, and places in lowest terms.
+ghost use Rattle.std.specs.Prelude.{pos, ◌<ℤ◌};
+ghost use Rattle.std.specs.Int.{IsGcd};
+ghost use Rattle.ff_whole.specs.Meeting.{IsReduced};
+
+use crate::Place;
+
+/// The greatest common divisor; `gcd(0, 0)` is 0.
+pub fn gcd(a: u128, b: u128) -> u128
+    ensures { IsGcd a b result }
+{
+    let mut m = a;
+    let mut n = b;
+    while n != 0 {
+        let rest = m % n;
+        m = n;
+        n = rest;
+    }
+    m
+}
+
+/// The place `(x / w, y / w)` in lowest terms.
+pub(crate) fn reduced(x: i128, y: i128, w: i128) -> Place
+    requires { pos 0 <ℤ w }
+    ensures { IsReduced x y w result }
+{
+    let d = gcd(gcd(x.unsigned_abs(), y.unsigned_abs()), w.unsigned_abs()) as i128;
+    Place {
+        x: x / d,
+        y: y / d,
+        w: w / d,
+    }
+}
