@@ -9,6 +9,7 @@ use crate::path::Path;
 use crate::trail::Trail;
 use ff_propagate::{Chains, Facts, Part};
 use ff_tables::{Items, Known, NoMemory, Order, System};
+use ff_types::Case;
 use std::alloc::Global;
 
 /// A search for the solutions of a part, at a node of the part's decision tree. Contracts see its facts and part, and how many
@@ -129,13 +130,13 @@ impl Search {
     }
 
     /// Visits nodes in tree order while the turns that are left in this call cover one, up to the next solution.
-    pub fn advance(&mut self, alloc: Global, system: &System, turns: u64) -> Result<Advance, NoMemory>
-        requires stands { StandsAt system.now.vars system.now.constraints self.old }
-        requires few { length system.now.constraints < 2 ^ 32 }
+    pub fn advance(&mut self, alloc: Global, case: &Case, turns: u64) -> Result<Advance, NoMemory>
+        requires stands { StandsAt case.now.system.vars case.now.system.constraints self.old }
+        requires few { length case.now.system.constraints < 2 ^ 32 }
         requires turns { length self.old.part.vars * self.old.visited + turns < 2 ^ 64 }
-        ensures stands { StandsAt system.now.vars system.now.constraints self.new }
+        ensures stands { StandsAt case.now.system.vars case.now.system.constraints self.new }
         ensures same { IsSameSearch self.old self.new }
-        ensures advances { IfOk result (λ r. AdvancesIn system.now.constraints self.old turns self.new r) }
+        ensures advances { IfOk result (λ r. AdvancesIn case.now.system.constraints self.old turns self.new r) }
         ensures kept { OnErr result (self.new ≡ self.old) }
     {
         if self.path.next.is_none() {
@@ -146,7 +147,7 @@ impl Search {
             return Ok(Advance::Spent);
         }
         let values = Vec::with_capacity(alloc, cost as usize)?;
-        Ok(self.run(system, turns, values))
+        Ok(self.run(&case.system, turns, values))
     }
 
     /// The turns of all nodes that were visited. It takes no memory.

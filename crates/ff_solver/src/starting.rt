@@ -10,7 +10,8 @@ use crate::path::Path;
 use crate::search::Search;
 use crate::trail::{Trail, Values};
 use ff_propagate::{Chains, Facts, Part};
-use ff_tables::{NoMemory, Order, System};
+use ff_tables::{NoMemory, Order};
+use ff_types::Case;
 use std::alloc::Global;
 
 // The values of a board.
@@ -27,13 +28,14 @@ fn values_of(alloc: Global, facts: &Facts, vars: u32) -> Result<Vec<Option<Order
 }
 
 /// A search for the solutions of the part, at the root of its decision tree. It takes the memory of the whole search.
-pub fn start(alloc: Global, system: &System, facts: &Facts, part: &Part) -> Result<Search, NoMemory>
-    requires board { IsBoardOf system.now.vars system.now.constraints facts.now }
-    requires part { IsPart system.now.vars system.now.constraints (value_at facts.now) part.now.vars }
-    requires few { length system.now.constraints < 2 ^ 32 }
-    ensures stands { IfOk result (λ search. StandsAt system.now.vars system.now.constraints search) }
+pub fn start(alloc: Global, case: &Case, facts: &Facts, part: &Part) -> Result<Search, NoMemory>
+    requires board { IsBoardOf case.now.system.vars case.now.system.constraints facts.now }
+    requires part { IsPart case.now.system.vars case.now.system.constraints (value_at facts.now) part.now.vars }
+    requires few { length case.now.system.constraints < 2 ^ 32 }
+    ensures stands { IfOk result (λ search. StandsAt case.now.system.vars case.now.system.constraints search) }
     ensures starts { IfOk result (λ search. Starts facts.now part.now.vars search) }
 {
+    let system = &case.system;
     let list = values_of(alloc, facts, system.vars)?;
     let vars = Vec::with_capacity(alloc, system.vars as usize)?;
     let branches = Vec::with_capacity(alloc, system.vars as usize)?;
