@@ -12,9 +12,9 @@ use Rattle.ff_propagate.specs.declared.facts.Fact.{Fact}
 use Rattle.ff_propagate.specs.Facts.{value_at}
 use Rattle.ff_propagate.specs.Solutions.{solutions_of}
 use Rattle.ff_propagate.specs.Trees.{Tree, IsTree, visits, found, same}
-use Rattle.ff_solver.specs.declared.search.Search.{Search}
-use Rattle.ff_solver.specs.declared.search.Advance.{Advance}
-use Rattle.ff_solver.specs.declared.search.Advance.TheVariants.{Found, Finished, Spent}
+use Rattle.ff_solver.specs.declared.state.Search.{Search}
+use Rattle.ff_solver.specs.declared.state.Advance.{Advance}
+use Rattle.ff_solver.specs.declared.state.Advance.TheVariants.{Found, Finished, Spent}
 use Rattle.ff_solver.specs.Paths.{AreLeft, AreNext, Nodes}
 use Rattle.ff_solver.specs.Searches.{IsSearch, IsSameSearch, IsRun, Advances, IsIn, StandsAt, IsAdvance, AdvancesIn, idle, solution_in}
 use Rattle.ff_solver.proofs.Running.{visits_some, times_more}

@@ -1,6 +1,6 @@
 -- A call visits nodes one after the other.
-use Rattle.std.proofs.Common.{◌≡◌, ℕ, zero, suc, ◌+◌, ◌*◌, ◌-◌, ◌<◌, ◌≤◌, List, [], ◌∷◌, ◌++◌, length, get_or, slice_index, refl, sym, ap, ◌∙◌, subst, arith, add-one, replicate, Option, Some, None}
-use Rattle.std.proofs.Math.Nat.{mul-suc}
+use Rattle.std.proofs.Common.{◌≡◌, ℕ, zero, suc, ◌+◌, ◌*◌, ◌-◌, ◌^◌, ◌<◌, ◌≤◌, List, [], ◌∷◌, ◌++◌, length, get_or, slice_index, refl, sym, ap, ◌∙◌, subst, arith, add-one, replicate, Option, Some, None}
+use Rattle.std.proofs.Math.Nat.{mul-suc, mul-add}
 use Rattle.std.proofs.lemmas.List.{append_assoc, replicate_more, ext_get_or}
 use Rattle.ff_tables.specs.declared.orders.Order.{Order}
 use Rattle.ff_tables.specs.declared.orders.Order.TheVariants.{Below}
@@ -9,8 +9,8 @@ use Rattle.ff_propagate.specs.declared.parts.Part.{Part}
 use Rattle.ff_propagate.specs.Trees.{Tree, Clash, Full, Fork, visits}
 use Rattle.ff_solver.specs.declared.trail.Trail.{Trail}
 use Rattle.ff_solver.specs.declared.path.Path.{Path}
-use Rattle.ff_solver.specs.declared.search.Search.{Search}
-use Rattle.ff_solver.specs.declared.search.Advance.TheVariants.{Found, Finished, Spent}
+use Rattle.ff_solver.specs.declared.state.Search.{Search}
+use Rattle.ff_solver.specs.declared.state.Advance.TheVariants.{Found, Finished, Spent}
 use Rattle.ff_solver.specs.Trails.{known}
 use Rattle.ff_solver.specs.Paths.{AreLeft, AreNext, ArePending, AreValues, IsPassed, IsSolved, Nodes}
 use Rattle.ff_solver.specs.Searches.{IsSearch, IsSameSearch, IsGoneOn, IsRunning, IsRun, idle}
@@ -97,3 +97,13 @@ run_on vars cons turns old now mid left head r at enough search same stepped pas
           are = g.are ∙ ap (λ ns. idle r.steps ++ ns) s.are ∙ sym (append_assoc (idle r.steps) (None ∷ []) s.later) ∙ ap (λ ns. ns ++ s.later) (replicate_more r.steps None);
         };
   }
+
+-- the turns of one node more
+pub run_room : (vars : ℕ) (cons : List Constraint) (turns : ℕ) (old now : Search) (left : ℕ) → IsRunning vars cons turns old now left → (left < length old.part.vars → ⊥) → length old.part.vars * old.visited + turns < 2 ^ 64
+    → length now.part.vars * (now.visited + 1) < 2 ^ 64
+run_room vars cons turns old now left r enough few =
+    let cost = length old.part.vars in
+    let here : length now.part.vars ≡ cost = ap (λ (p : Part). length p.vars) r.same.part in
+    let one : cost * (now.visited + 1) ≡ cost * now.visited + cost = times_more cost now.visited in
+    let all : cost * now.visited ≡ cost * old.visited + cost * r.steps = ap (λ n. cost * n) r.counted ∙ mul-add cost old.visited r.steps in
+    subst (λ c. c * (now.visited + 1) < 2 ^ 64) (sym here) (omega (arith, one, all, r.paid, enough, few))

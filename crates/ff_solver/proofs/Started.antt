@@ -20,7 +20,7 @@ use Rattle.ff_propagate.specs.Solutions.{solutions_of}
 use Rattle.ff_propagate.specs.Chained.{IsChained}
 use Rattle.ff_propagate.specs.Trees.{Tree, IsTree, visits, found}
 use Rattle.ff_propagate.proofs.Quiet.{IsQuiet, closure_quiet}
-use Rattle.ff_solver.specs.declared.search.Search.{Search}
+use Rattle.ff_solver.specs.declared.state.Search.{Search}
 use Rattle.ff_solver.specs.Trails.{known, value_in, set_count, IsTrail, Ready}
 use Rattle.ff_solver.specs.Paths.{IsAtNode, AreMarks, IsPath, AreBranches, AreLeft, AreNext, IsReady}
 use Rattle.ff_solver.specs.Searches.{IsSearch, IsIn, StandsAt}

@@ -10,9 +10,9 @@ use Rattle.ff_propagate.specs.Facts.{value_at}
 use Rattle.ff_propagate.specs.Trees.{Tree, IsTree, visits, found}
 use Rattle.ff_propagate.specs.Solutions.{solutions_of}
 use Rattle.ff_propagate.specs.Chained.{IsChained}
-use Rattle.ff_solver.specs.declared.search.Search.{Search}
-use Rattle.ff_solver.specs.declared.search.Advance.{Advance}
-use Rattle.ff_solver.specs.declared.search.Advance.TheVariants.{Found, Finished, Spent}
+use Rattle.ff_solver.specs.declared.state.Search.{Search}
+use Rattle.ff_solver.specs.declared.state.Advance.{Advance}
+use Rattle.ff_solver.specs.declared.state.Advance.TheVariants.{Found, Finished, Spent}
 use Rattle.ff_solver.specs.Paths.{IsPath, IsReady, AreLeft, AreNext, ArePending, AreWithin, AreDecided, Nodes}
 
 -- nodes that are no solutions

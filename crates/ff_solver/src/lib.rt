@@ -5,8 +5,9 @@ mod closing;
 mod path;
 mod search;
 mod starting;
+mod state;
 mod trail;
 mod visiting;
 
-pub use search::{Advance, Search};
 pub use starting::start;
+pub use state::{Advance, Search};

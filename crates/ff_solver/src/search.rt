@@ -1,38 +1,15 @@
-//! The search.
+//! A search goes on.
 ghost use Rattle.std.specs.Prelude.{◌≡◌, ℕ, ◌+◌, ◌*◌, ◌<◌, ◌≤◌, ◌^◌, ◌++◌, [], IsTrue, IfOk, OnErr, List, false, length, None, Some, Option, slice_index, slice_index_or, vec_len, vec_capacity};
 ghost use Rattle.ff_tables.specs.declared.orders.Order.{Order as OrderSpec};
 ghost use Rattle.ff_solver.specs.Trails.{known, IsTrail};
 ghost use Rattle.ff_solver.specs.Paths.{AreDecided, AreValues, AreWithin, AreLeft, AreNext, ArePending, IsPassed, IsSolved, Nodes};
 ghost use Rattle.ff_solver.specs.Searches.{IsSearch, IsSameSearch, IsAtSolution, IsRun, IsRunning, StandsAt, AdvancesIn};
 
-use crate::path::Path;
+use crate::state::{Advance, Search};
 use crate::trail::Trail;
-use ff_propagate::{Chains, Facts, Part};
 use ff_tables::{Items, Known, NoMemory, Order, System};
 use ff_types::Case;
 use std::alloc::Global;
-
-/// A search for the solutions of a part, at a node of the part's decision tree. Contracts see its facts and part, and how many
-/// nodes of the tree it has visited.
-#[derive(Drop)]
-pub struct Search {
-    pub(crate) facts: Facts,
-    pub(crate) part: Part,
-    pub(crate) visited: u64,
-    pub(crate) chains: Chains,
-    pub(crate) path: Path,
-}
-
-/// How a search goes on.
-#[derive(Drop)]
-pub enum Advance {
-    /// The next solution: a value for each variable of the part.
-    Found(Items<Order>),
-    /// The tree has ended.
-    Finished,
-    /// The tree goes on, and the turns that are left don't cover a node.
-    Spent,
-}
 
 // Reads the values of the part's variables.
 fn read_values(part: &[u32], trail: &Trail, vars: u32, values: &mut Vec<Order>)
@@ -64,7 +41,7 @@ impl Search {
         requires search { IsSearch system.now.vars system.now.constraints self.old }
         requires few { length system.now.constraints < 2 ^ 32 }
         requires next { self.old.path.next ≡ Some head }
-        requires room { self.old.visited + 1 < 2 ^ 64 }
+        requires room { length self.old.part.vars * (self.old.visited + 1) < 2 ^ 64 }
         ensures same { IsSameSearch self.old self.new }
         ensures visited { self.new.visited ≡ self.old.visited + 1 }
         ensures search { result ≡ false → IsSearch system.now.vars system.now.constraints self.new }
@@ -152,7 +129,6 @@ impl Search {
 
     /// The turns of all nodes that were visited. It takes no memory.
     pub fn used(&self) -> u64
-        requires { length self.now.part.vars * self.now.visited < 2 ^ 64 }
         ensures { result ≡ length self.now.part.vars * self.now.visited }
     {
         self.cost() * self.visited

@@ -7,7 +7,7 @@ ghost use Rattle.ff_solver.specs.Trails.{value_in};
 ghost use Rattle.ff_solver.specs.Searches.{StandsAt, Starts, IsBoardOf};
 
 use crate::path::Path;
-use crate::search::Search;
+use crate::state::Search;
 use crate::trail::{Trail, Values};
 use ff_propagate::{Chains, Facts, Part};
 use ff_tables::{NoMemory, Order};

@@ -1,6 +1,6 @@
 use Rattle.std.proofs.Common.{◌<◌, arith}
 use Rattle.ff_solver.proofs.Advancing.{advanced, stays_finished, stays_spent, no_next, has_next}
-use Rattle.ff_solver.proofs.search.Search.advance.Goals as goal
+use Rattle.ff_solver.proofs.state.Search.advance.Goals as goal
 
 pub returns-then-is_none-clause-advances : goal.returns-then-is_none-clause-advances
 returns-then-is_none-clause-advances c = stays_finished c.args.case.now.system.vars c.args.case.now.system.constraints c.args.turns c.args.self.now c.requires.stands (no_next c.args.self.now.path.next c.if-is_none.ensures)

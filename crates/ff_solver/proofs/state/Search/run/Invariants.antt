@@ -1,7 +1,7 @@
 use Rattle.std.proofs.Common.{◌≡◌, ◌≤◌, [], length}
 use Rattle.std.specs.Vec.{vec_capacity}
 use Rattle.ff_solver.specs.Searches.{IsRunning}
-use Rattle.ff_solver.proofs.search.Search.run.Given as goal
+use Rattle.ff_solver.proofs.state.Search.run.Given as goal
 
 abbrev pub invariant-nodes : goal.invariant-nodes
 invariant-nodes l = IsRunning l.system.vars l.system.constraints l.fn.turns l.fn.self l.self l.left
