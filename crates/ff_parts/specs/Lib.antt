@@ -1,4 +1,4 @@
 pub mod Labels
 pub mod Gathers
-pub mod Boards
+pub mod Lists
 pub mod Factors

@@ -3,7 +3,8 @@ ghost use Rattle.std.specs.Prelude.{◌≡◌, ◌<◌, ◌≤◌, ◌^◌, IfOk
 ghost use Rattle.ff_propagate.specs.Facts.{value_at};
 ghost use Rattle.ff_propagate.specs.Parts.{AreParts};
 ghost use Rattle.ff_parts.specs.Gathers.{lists_in};
-ghost use Rattle.ff_parts.specs.Boards.{IsBoardOf, vars_of};
+ghost use Rattle.ff_propagate.specs.Boards.{IsBoardOf};
+ghost use Rattle.ff_parts.specs.Lists.{vars_of};
 ghost use Rattle.ff_parts.specs.Factors.{FactorsFor};
 
 use crate::gathering::gather;

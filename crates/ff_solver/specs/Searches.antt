@@ -2,10 +2,7 @@
 use Rattle.std.specs.Prelude.{◌≡◌, ℕ, ◌+◌, ◌*◌, ◌<◌, ◌≤◌, ◌++◌, List, [], ◌∷◌, length, drop, take, replicate, slice_index, Option, Some, None}
 use Rattle.ff_tables.specs.declared.orders.Order.{Order}
 use Rattle.ff_tables.specs.declared.terms.Constraint.{Constraint}
-use Rattle.ff_tables.specs.declared.givens.Given.{Given}
 use Rattle.ff_propagate.specs.declared.facts.Fact.{Fact}
-use Rattle.ff_propagate.specs.declared.facts.Closed.TheVariants.{Board}
-use Rattle.ff_propagate.specs.Closing.{ClosesTo}
 use Rattle.ff_propagate.specs.Facts.{value_at}
 use Rattle.ff_propagate.specs.Trees.{Tree, IsTree, visits, found}
 use Rattle.ff_propagate.specs.Solutions.{solutions_of}
@@ -119,10 +116,6 @@ pub record IsAdvance (tree : Tree) (cost turns before after : ℕ) (answer : Adv
 -- the same, of whichever tree is the part's
 abbrev pub AdvancesIn : List Constraint → Search → ℕ → Search → Advance → Type 0
 AdvancesIn cons old turns new answer = (tree : Tree) → IsTree cons (value_at old.facts) old.part.vars tree → IsAdvance tree (length old.part.vars) turns old.visited new.visited answer
-
--- the facts are a board of the system: the closure of some givens, which doesn't clash, with one item for each variable
-abbrev pub IsBoardOf : ℕ → List Constraint → List (Option Fact) → Type 0
-IsBoardOf vars cons fs = (gs : List Given) × ClosesTo vars cons gs (Board fs)
 
 -- a search of the facts and the part that has visited no node
 pub record Starts (facts : List (Option Fact)) (part : List ℕ) (s : Search) : Type 0 where

@@ -1,10 +1,10 @@
 //! The start of a search.
 ghost use Rattle.std.specs.Prelude.{◌≡◌, ℕ, ◌<◌, ◌^◌, IfOk, length, slice_index_or, None};
-ghost use Rattle.ff_tables.specs.declared.givens.Given.{Given};
+ghost use Rattle.ff_propagate.specs.Boards.{IsBoardOf};
 ghost use Rattle.ff_propagate.specs.Facts.{value_at};
 ghost use Rattle.ff_propagate.specs.Parts.{IsPart};
 ghost use Rattle.ff_solver.specs.Trails.{value_in};
-ghost use Rattle.ff_solver.specs.Searches.{StandsAt, Starts, IsBoardOf};
+ghost use Rattle.ff_solver.specs.Searches.{StandsAt, Starts};
 
 use crate::path::Path;
 use crate::state::Search;

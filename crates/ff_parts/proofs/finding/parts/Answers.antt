@@ -3,7 +3,7 @@ use Rattle.ff_propagate.specs.declared.parts.Part.{Part}
 use Rattle.ff_propagate.specs.Facts.{value_at}
 use Rattle.ff_propagate.specs.Parts.{AreParts}
 use Rattle.ff_parts.specs.Gathers.{Gathers, lists_in}
-use Rattle.ff_parts.specs.Boards.{vars_of}
+use Rattle.ff_parts.specs.Lists.{vars_of}
 use Rattle.ff_parts.specs.Factors.{FactorsFor}
 use Rattle.ff_parts.proofs.Classes.{found_parts, labels_within}
 use Rattle.ff_parts.proofs.Factoring.{parts_factor}

@@ -1,7 +1,7 @@
 use Rattle.std.proofs.Common.{◌≡◌, ◌≤◌, ◌+◌, length}
 use Rattle.std.specs.Vec.{vec_capacity, vec_len}
 use Rattle.ff_parts.specs.Gathers.{lists_in}
-use Rattle.ff_parts.specs.Boards.{vars_of}
+use Rattle.ff_parts.specs.Lists.{vars_of}
 use Rattle.ff_parts.proofs.finding.wrap.Given as goal
 
 abbrev pub invariant-loop-list : goal.invariant-loop-list
