@@ -10,7 +10,9 @@ use Rattle.ff_propagate.proofs.Joining.{Stands}
 use Rattle.ff_propagate.proofs.Quiet.{stands_contains, contains_stands}
 use Rattle.ff_parts.specs.declared.labels.Labels.{Labels}
 use Rattle.ff_parts.specs.Labels.{label, IsLabelling, AreAlike, IsBelow}
+use Rattle.ff_propagate.specs.declared.parts.Part.{Part}
 use Rattle.ff_parts.specs.Gathers.{members, Gathers}
+use Rattle.ff_parts.specs.Lists.{vars_of}
 use Rattle.ff_parts.proofs.Reaching.{link_on}
 use Rattle.ff_parts.proofs.Gathered.{member_within, member_stands, members_rise}
 
@@ -116,3 +118,11 @@ found_parts vars cons value l lists labels many is slice count g = are_parts var
     (subst (λ n. Gathers l.part_of.items n (length l.firsts.items) lists) is.labelling.wide
     (subst (λ m. Gathers l.part_of.items (length l.part_of.items) m lists) count
     (subst (λ xs. Gathers xs (length xs) many lists) slice g)))
+
+pub part_at : (parts : List Part) (k : ℕ) (part : Part) → slice_get parts k ≡ Some part → slice_get (vars_of parts) k ≡ Some part.vars
+part_at [] k part e = cc
+part_at (p ∷ parts) zero part e = same p part e
+  where
+    same : (a b : Part) → Some a ≡ Some b → Some a.vars ≡ Some b.vars
+    same a b e = cc
+part_at (p ∷ parts) (suc k) part e = part_at parts k part e

@@ -1,7 +1,8 @@
 //! The parts.
-ghost use Rattle.std.specs.Prelude.{◌≡◌, ◌<◌, ◌≤◌, ◌^◌, IfOk, length, map};
+ghost use Rattle.std.specs.Prelude.{◌≡◌, ℕ, ◌<◌, ◌≤◌, ◌^◌, IfOk, Some, length, map, slice_get};
 ghost use Rattle.ff_propagate.specs.Facts.{value_at};
-ghost use Rattle.ff_propagate.specs.Parts.{AreParts};
+ghost use Rattle.ff_propagate.specs.Parts.{AreParts, IsPart};
+ghost use Rattle.ff_propagate.specs.declared.parts.Part.{Part as PartSpec};
 ghost use Rattle.ff_parts.specs.Gathers.{lists_in};
 ghost use Rattle.ff_propagate.specs.Boards.{IsBoardOf};
 ghost use Rattle.ff_parts.specs.Lists.{vars_of};
@@ -36,6 +37,10 @@ pub fn parts(alloc: Global, system: &System, facts: &Facts) -> Result<Items<Part
     requires board { IsBoardOf system.now.vars system.now.constraints facts.now }
     requires few { length system.now.constraints < 2 ^ 32 }
     ensures parts { IfOk result (λ found. AreParts system.now.vars system.now.constraints (value_at facts.now) (vars_of found)) }
+    ensures each {
+        IfOk result (λ found. (k : ℕ) (part : PartSpec) → slice_get found k ≡ Some part
+            → IsPart system.now.vars system.now.constraints (value_at facts.now) part.vars)
+    }
     ensures factors { IfOk result (λ found. FactorsFor system.now.vars system.now.constraints (value_at facts.now) (vars_of found)) }
 {
     let labels = Labels::all(alloc, system, facts)?;
