@@ -1,16 +1,15 @@
 -- A part is begun and followed.
-use Rattle.std.proofs.Common.{◌≡◌, ℕ, zero, suc, ◌+◌, ◌<◌, ◌≤◌, ◌⊎◌, inl, inr, List, [], ◌∷◌, ◌++◌, length, get_or, set, slice_index, slice_get, replicate, refl, sym, ap, ◌∙◌, subst, arith, add-one, ◌^◌, Option, Some, None}
-use Rattle.std.specs.Vec.{vec_len, vec_capacity}
+use Rattle.std.proofs.Common.{◌≡◌, ℕ, zero, suc, ◌+◌, ◌<◌, ◌≤◌, inl, inr, List, [], ◌∷◌, ◌++◌, length, get_or, set, slice_index, slice_get, replicate, refl, sym, ap, ◌∙◌, subst, arith, add-one, ◌^◌, Option, Some, None}
+use Rattle.std.specs.Vec.{vec_capacity}
 use Rattle.std.proofs.lemmas.Bool.{cases_eq, cases_order}
-use Rattle.std.proofs.lemmas.Option.{slice_get_within}
-use Rattle.std.proofs.lemmas.List.{length-append, length-set, get_or_append_left, get_or_push, get_or-replicate, length-replicate, get_or_past}
+use Rattle.std.proofs.lemmas.List.{length-append, length-set, get_or_append_left, get_or_push, length-replicate}
 use Rattle.ff_tables.specs.declared.orders.Order.{Order}
 use Rattle.ff_tables.specs.declared.terms.Constraint.{Constraint}
 use Rattle.ff_tables.specs.Orders.{term_at}
 use Rattle.ff_propagate.specs.Parts.{IsUndecided, AreConnected}
 use Rattle.ff_parts.specs.declared.labels.Labels.{Labels}
-use Rattle.ff_parts.specs.Labels.{label, count_set, IsLabelling, AreAlike, IsOwn, AreMixed, AllMixed, Waits, Rests, Ready, AreOf, Spreads, IsSpreading, IsLabelled, IsBelow}
-use Rattle.ff_parts.proofs.Reaching.{queue_room, count_more, label_here, label_other, spreads_set, spreads_trans, mixed_kept, kept_label}
+use Rattle.ff_parts.specs.Labels.{label, count_set, AreAlike, Rests, Ready, AreOf, Spreads, IsSpreading, IsLabelled, IsBelow}
+use Rattle.ff_parts.proofs.Reaching.{count_more, label_here, label_other, spreads_set, spreads_trans, mixed_kept, kept_label}
 use Rattle.ff_parts.proofs.Following.{keeps}
 
 -- the numbers of a rising list are at least their places
@@ -69,22 +68,22 @@ started vars cons value v old mid is within none b =
           room = omega (arith, l.room, b.room);
           count = omega (arith, long, l.count, ap count_set b.part_of ∙ count_more old.part_of.items v p wide b.none (omega arith));
           queued = λ i m. elim (cases_eq i (length old.queue.items)) [
-              inl e ↦ subst (λ u. 0 < label mid u) (sym (ap (λ xs. get_or xs i 0) b.queue ∙ get_or_push old.queue.items v 0 i (sym e))) (omega (arith, here))
+            | inl e ↦ subst (λ u. 0 < label mid u) (sym (ap (λ xs. get_or xs i 0) b.queue ∙ get_or_push old.queue.items v 0 i (sym e))) (omega (arith, here))
             | inr ne ↦ (let m' : i < length old.queue.items = omega (arith, m, long, ne) in
                 subst (λ u. 0 < label mid u) (sym (x.front i m')) (kept_label p (with_firsts old mid) mid x (slice_index old.queue.items i) (l.queued i m')))
-            ];
+          ];
           undecided = λ u some. elim (cases_eq u v) [
-              inl e ↦ subst (IsUndecided vars value) (sym e) open_v
+            | inl e ↦ subst (IsUndecided vars value) (sym e) open_v
             | inr ne ↦ l.undecided u (subst (λ n. 0 < n) (other u ne) some)
-            ];
+          ];
           reached = λ u q e. elim (cases_eq u v) [
-              inl same ↦ (
+            | inl same ↦ (
                 let q_is : q ≡ length old.firsts.items = suc_same (sym e ∙ ap (label mid) same ∙ here ∙ add-one (length old.firsts.items)) in
                 (omega (arith, q_is, more), ([], ap (slice_index mid.firsts.items) q_is ∙ last_first ∙ sym same)))
             | inr ne ↦ (
                 let r = l.reached u q (sym (other u ne) ∙ e) in
                 (omega (arith, r.0, more), subst (λ w. AreConnected vars cons value w u) (sym (at_first q r.0)) r.1))
-            ];
+          ];
         };
         mixed = λ c con at. mixed_kept value p (with_firsts old mid) mid con x (λ i j li lj oi oj. inl (is.alike c con at i j li lj oi oj));
         last = sym more;
@@ -126,87 +125,89 @@ begun vars cons value v old mid new is within none b s y ready =
       room = omega (arith, is.room, b.firsts_room, ap (λ fs. vec_capacity fs) y.firsts);
       alike = all_alike cons value new ready;
       first = λ q m. elim (cases_eq q n) [
-          inl e ↦ ap (label new) (last_first q e) ∙ here_new ∙ ap suc (sym e)
+        | inl e ↦ ap (label new) (last_first q e) ∙ here_new ∙ ap suc (sym e)
         | inr ne ↦ (let m' : q < n = omega (arith, m, more, ne) in
             let f = is.first q m' in
             ap (label new) (at_first q m') ∙ z.kept (slice_index old.firsts.items q) (omega (arith, f)) ∙ f)
-        ];
+      ];
       least = λ u q e. elim (z.changed u) [
-          inl same ↦ (
+        | inl same ↦ (
             let r = l.reached u q (sym same ∙ e) in
             let f = is.least u q (sym same ∙ e) in
             subst (λ w. w ≤ u) (sym (at_first q r.0)) f)
         | inr since ↦ (
             let q_is : q ≡ n = suc_same (sym e ∙ since.1 ∙ add-one n) in
             subst (λ w. w ≤ u) (sym (last_first q q_is)) (not_below u since.0 (s.labelling.undecided u (omega (arith, e)))))
-        ];
+      ];
       rising = λ a c less m. elim (cases_eq c n) [
-          inl e ↦ (let m' : a < n = omega (arith, less, e) in omega (arith, at_first a m', last_first c e, is.below a m'))
+        | inl e ↦ (let m' : a < n = omega (arith, less, e) in omega (arith, at_first a m', last_first c e, is.below a m'))
         | inr ne ↦ (let mc : c < n = omega (arith, m, more, ne) in let ma : a < n = omega (arith, less, mc) in omega (arith, at_first a ma, at_first c mc, is.rising a c less mc))
-        ];
+      ];
       below = λ q m. elim (cases_eq q n) [
-          inl e ↦ omega (arith, last_first q e)
+        | inl e ↦ omega (arith, last_first q e)
         | inr ne ↦ (let m' : q < n = omega (arith, m, more, ne) in omega (arith, at_first q m', is.below q m'))
-        ];
+      ];
       done = λ u m o. elim (cases_eq u v) [
-          inl e ↦ subst (λ w. 0 < label new w) (sym e) (omega (arith, here_new))
+        | inl e ↦ subst (λ w. 0 < label new w) (sym e) (omega (arith, here_new))
         | inr ne ↦ (let d = is.done u (omega (arith, m, ne)) o in kept_label p (with_firsts old mid) new z u d)
-        ];
+      ];
     }
   where
     suc_same : {a b : ℕ} → suc a ≡ suc b → a ≡ b
     suc_same r = omega (arith, r)
+
     not_below : (u : ℕ) → label old u ≡ 0 → IsUndecided vars value u → v ≤ u
     not_below u zero_label o = elim (cases_order u v) [
-        inl e ↦ omega (arith, e)
+      | inl e ↦ omega (arith, e)
       | inr r ↦ elim r [
-          inl less ↦ (let d = is.done u less o in absurd (omega (arith, d, zero_label)))
+        | inl less ↦ (let d = is.done u less o in absurd (omega (arith, d, zero_label)))
         | inr more ↦ omega (arith, more)
-        ]
       ]
+    ]
 
 -- a variable that is decided or labelled
 pub passed : (vars : ℕ) (cons : List Constraint) (value : ℕ → Option Order) (v : ℕ) (l : Labels) → IsBelow vars cons value v l → (value v ≡ None → 0 < label l v) → IsBelow vars cons value (v + 1) l
 passed vars cons value v l is has = record {
-    labelling = is.labelling;
-    room = is.room;
-    alike = is.alike;
-    first = is.first;
-    least = is.least;
-    rising = is.rising;
-    below = λ q m. let r = is.below q m in omega (arith, r);
-    done = λ u m o. elim (cases_eq u v) [
-        inl e ↦ subst (λ w. 0 < label l w) (sym e) (has (ap value (sym e) ∙ o.open_yet))
-      | inr ne ↦ is.done u (omega (arith, m, ne)) o
-      ];
-  }
+  labelling = is.labelling;
+  room = is.room;
+  alike = is.alike;
+  first = is.first;
+  least = is.least;
+  rising = is.rising;
+  below = λ q m. let r = is.below q m in omega (arith, r);
+  done = λ u m o. elim (cases_eq u v) [
+    | inl e ↦ subst (λ w. 0 < label l w) (sym e) (has (ap value (sym e) ∙ o.open_yet))
+    | inr ne ↦ is.done u (omega (arith, m, ne)) o
+  ];
+}
 
 -- no variable is labelled yet
 pub none_labelled : (vars : ℕ) (cons : List Constraint) (value : ℕ → Option Order) (l : Labels) → vars < 2 ^ 32 → l.part_of.items ≡ replicate vars 0 → l.queue.items ≡ [] → vars ≤ vec_capacity l.queue → l.firsts.items ≡ []
     → vars ≤ vec_capacity l.firsts → IsBelow vars cons value 0 l
 none_labelled vars cons value l few labels queue room firsts firsts_room = record {
-    labelling = record {
-      few = few;
-      wide = ap length labels ∙ length-replicate vars 0;
-      room = room;
-      count = omega (arith, ap length queue);
-      queued = λ i m. absurd (omega (arith, m, ap length queue));
-      undecided = λ v some. absurd (omega (arith, some, zero_at v));
-      reached = λ v p e. absurd (omega (arith, e, zero_at v));
-    };
-    room = firsts_room;
-    alike = λ c con at i j li lj oi oj. zero_at (term_at con.terms i).var ∙ sym (zero_at (term_at con.terms j).var);
-    first = λ p m. absurd (omega (arith, m, ap length firsts));
-    least = λ u p e. absurd (omega (arith, e, zero_at u));
-    rising = λ p q a m. absurd (omega (arith, m, ap length firsts));
-    below = λ p m. absurd (omega (arith, m, ap length firsts));
-    done = λ u m o. absurd (omega (arith, m));
-  }
+  labelling = record {
+    few = few;
+    wide = ap length labels ∙ length-replicate vars 0;
+    room = room;
+    count = omega (arith, ap length queue);
+    queued = λ i m. absurd (omega (arith, m, ap length queue));
+    undecided = λ v some. absurd (omega (arith, some, zero_at v));
+    reached = λ v p e. absurd (omega (arith, e, zero_at v));
+  };
+  room = firsts_room;
+  alike = λ c con at i j li lj oi oj. zero_at (term_at con.terms i).var ∙ sym (zero_at (term_at con.terms j).var);
+  first = λ p m. absurd (omega (arith, m, ap length firsts));
+  least = λ u p e. absurd (omega (arith, e, zero_at u));
+  rising = λ p q a m. absurd (omega (arith, m, ap length firsts));
+  below = λ p m. absurd (omega (arith, m, ap length firsts));
+  done = λ u m o. absurd (omega (arith, m));
+}
   where
     zeros : (n v : ℕ) → slice_index (replicate n 0) v ≡ 0
     zeros zero v = refl
     zeros (suc n) zero = refl
     zeros (suc n) (suc v) = zeros n v
+
     zero_at : (v : ℕ) → label l v ≡ 0
     zero_at v = ap (λ xs. get_or xs v 0) labels ∙ zeros vars v
 

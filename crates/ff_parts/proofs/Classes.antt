@@ -1,11 +1,9 @@
 -- The variables of one label are a part.
-use Rattle.std.proofs.Common.{◌≡◌, ℕ, zero, suc, ◌+◌, ◌<◌, ◌≤◌, ◌⊎◌, inl, inr, List, [], ◌∷◌, length, get_or, slice_index, slice_get, refl, sym, ap, ◌∙◌, subst, arith, Option, Some, None, Contains}
-use Rattle.std.proofs.lemmas.Bool.{cases_eq}
+use Rattle.std.proofs.Common.{◌≡◌, ℕ, zero, suc, ◌<◌, ◌≤◌, List, [], ◌∷◌, length, slice_index, slice_get, refl, sym, ap, ◌∙◌, subst, arith, Option, Some, Contains}
 use Rattle.std.proofs.lemmas.Option.{slice_get_within, slice_get-get_or, get_or_from_slice_get}
 use Rattle.ff_tables.specs.declared.orders.Order.{Order}
 use Rattle.ff_tables.specs.declared.terms.Constraint.{Constraint}
-use Rattle.ff_tables.specs.Orders.{term_at}
-use Rattle.ff_propagate.specs.Parts.{IsUndecided, AreLinked, StandTogether, IsLinkChain, AreConnected, IsPart, AreParts}
+use Rattle.ff_propagate.specs.Parts.{IsUndecided, AreLinked, IsLinkChain, AreConnected, IsPart, AreParts}
 use Rattle.ff_propagate.proofs.Joining.{Stands}
 use Rattle.ff_propagate.proofs.Quiet.{stands_contains, contains_stands}
 use Rattle.ff_parts.specs.declared.labels.Labels.{Labels}
@@ -18,11 +16,20 @@ use Rattle.ff_parts.proofs.Gathered.{member_within, member_stands, members_rise}
 
 link_back : (vars : ℕ) (cons : List Constraint) (value : ℕ → Option Order) (v w : ℕ) → AreLinked vars cons value v w → AreLinked vars cons value w v
 link_back vars cons value v w l = record {
-    first = l.second;
-    second = l.first;
-    together = record { number = l.together.number; constraint = l.together.constraint; there = l.together.there; first = l.together.second; second = l.together.first;
-        first_inside = l.together.second_inside; second_inside = l.together.first_inside; first_is = l.together.second_is; second_is = l.together.first_is };
-  }
+  first = l.second;
+  second = l.first;
+  together = record {
+    number = l.together.number;
+    constraint = l.together.constraint;
+    there = l.together.there;
+    first = l.together.second;
+    second = l.together.first;
+    first_inside = l.together.second_inside;
+    second_inside = l.together.first_inside;
+    first_is = l.together.second_is;
+    second_is = l.together.first_is;
+  };
+}
 
 chain_back : (vars : ℕ) (cons : List Constraint) (value : ℕ → Option Order) (v w : ℕ) (chain : List ℕ) → IsLinkChain vars cons value v chain w → AreConnected vars cons value w v
 chain_back vars cons value v w [] e = ([], sym e)
@@ -51,17 +58,19 @@ module _ (vars : ℕ) (cons : List Constraint) (value : ℕ → Option Order) (l
 
   part_of_label : (k : ℕ) → k < length l.firsts.items → IsPart vars cons value (of_label k)
   part_of_label k m = record {
-      some = (let st = first_stands in omega (arith, st.1));
-      undecided = λ i a. is.labelling.undecided (slice_index (of_label k) i) (let r = member_within l.part_of.items vars (suc k) i a in omega (arith, r.1));
-      rising = members_rise l.part_of.items vars (suc k);
-      class = λ i v a o. (to i v a o, from i v a);
-    }
+    some = (let st = first_stands in omega (arith, st.1));
+    undecided = λ i a. is.labelling.undecided (slice_index (of_label k) i) (let r = member_within l.part_of.items vars (suc k) i a in omega (arith, r.1));
+    rising = members_rise l.part_of.items vars (suc k);
+    class = λ i v a o. (to i v a o, from i v a);
+  }
     where
       first_stands : Stands (of_label k) (slice_index l.firsts.items k)
       first_stands = member_stands l.part_of.items vars (suc k) (slice_index l.firsts.items k) (is.below k m) (is.first k m)
+
       to : (i v : ℕ) → i < length (of_label k) → IsUndecided vars value v → AreConnected vars cons value (slice_index (of_label k) i) v → Contains (of_label k) v
       to i v a o (chain, c) = stands_contains (of_label k) v (member_stands l.part_of.items vars (suc k) v o.variable
           (sym (chain_label vars cons value l is.alike (slice_index (of_label k) i) v chain c) ∙ (member_within l.part_of.items vars (suc k) i a).1))
+
       from : (i v : ℕ) → i < length (of_label k) → Contains (of_label k) v → AreConnected vars cons value (slice_index (of_label k) i) v
       from i v a has =
           let st = contains_stands (of_label k) v has in
@@ -90,19 +99,22 @@ module _ (vars : ℕ) (cons : List Constraint) (value : ℕ → Option Order) (l
 
   pub are_parts : AreParts vars cons value lists
   are_parts = record {
-      each = λ k part at. let r = list_is k part at in subst (IsPart vars cons value) (sym r.1) (part_of_label k r.0);
-      all = λ v o.
-          let p = suc_of (label l v) (is.done v o.variable o) in
-          let r = is.labelling.reached v p.0 p.1 in
-          (p.0, of_label p.0, slice_get-get_or lists p.0 [] (omega (arith, r.0, g.as_many)) ∙ ap (λ xs. Some xs) (g.each p.0 r.0),
-          stands_contains (of_label p.0) v (member_stands l.part_of.items vars (suc p.0) v o.variable p.1));
-      sorted = λ k m p q less at at'.
-          let a = list_is k p at in
-          let b = list_is m q at' in
-          let x : slice_index p 0 ≡ slice_index l.firsts.items k = ap (λ xs. slice_index xs 0) a.1 ∙ starts_with k a.0 in
-          let y : slice_index q 0 ≡ slice_index l.firsts.items m = ap (λ xs. slice_index xs 0) b.1 ∙ starts_with m b.0 in
-          omega (arith, x, y, is.rising k m less b.0);
-    }
+    each = λ k part at. let r = list_is k part at in subst (IsPart vars cons value) (sym r.1) (part_of_label k r.0);
+    all = λ v o.
+        let p = suc_of (label l v) (is.done v o.variable o) in
+        let r = is.labelling.reached v p.0 p.1 in (
+          p.0,
+          of_label p.0,
+          slice_get-get_or lists p.0 [] (omega (arith, r.0, g.as_many)) ∙ ap (λ xs. Some xs) (g.each p.0 r.0),
+          stands_contains (of_label p.0) v (member_stands l.part_of.items vars (suc p.0) v o.variable p.1),
+        );
+    sorted = λ k m p q less at at'.
+        let a = list_is k p at in
+        let b = list_is m q at' in
+        let x : slice_index p 0 ≡ slice_index l.firsts.items k = ap (λ xs. slice_index xs 0) a.1 ∙ starts_with k a.0 in
+        let y : slice_index q 0 ≡ slice_index l.firsts.items m = ap (λ xs. slice_index xs 0) b.1 ∙ starts_with m b.0 in
+        omega (arith, x, y, is.rising k m less b.0);
+  }
 
 pub labels_within : (vars : ℕ) (cons : List Constraint) (value : ℕ → Option Order) (l : Labels) → IsLabelling vars cons value l → (v : ℕ) → label l v ≤ length l.firsts.items
 labels_within vars cons value l is v = sort (label l v) refl

@@ -1,10 +1,9 @@
 -- Choices and assignments.
-use Rattle.std.proofs.Common.{◌≡◌, ℕ, zero, suc, ◌+◌, ◌<◌, ◌≤◌, ◌⊎◌, inl, inr, Bool, true, false, cond, List, [], ◌∷◌, ◌++◌, map, filter, length, get_or, slice_index, slice_get, IsTrue, refl, sym, ap, ◌∙◌, subst, arith, Option, Some, None, Contains, if◌then◌else◌}
-use Rattle.std.specs.List.{list_all, All}
-use Rattle.std.proofs.lemmas.Bool.{cases_eq, cases_order, eq-eqb, ne_eqb}
-use Rattle.std.proofs.lemmas.List.{length-map, get_or-map, ext_get_or, get_or_default}
-use Rattle.std.proofs.lemmas.List.Elements.{filter_passes, All-filter, All-contains, All-contains_itself, All-append, All-map, All-weaker, All-cons, All-nil, Contains-append_left, Contains-append_right}
-use Rattle.std.proofs.lemmas.Option.{slice_get_within, slice_get-get_or, get_or_from_slice_get}
+use Rattle.std.proofs.Common.{◌≡◌, ℕ, zero, suc, ◌<◌, ◌≤◌, ◌⊎◌, inl, inr, Bool, true, false, cond, List, [], ◌∷◌, map, filter, length, slice_index, slice_get, refl, sym, ap, ◌∙◌, subst, arith, Option, Some, None, Contains, if◌then◌else◌}
+use Rattle.std.specs.List.{All}
+use Rattle.std.proofs.lemmas.Bool.{cases_eq, eq-eqb, ne_eqb}
+use Rattle.std.proofs.lemmas.List.{length-map, get_or-map, ext_get_or}
+use Rattle.std.proofs.lemmas.List.Elements.{filter_passes, All-filter, All-contains, All-append, All-map, All-weaker, All-cons, All-nil, Contains-append_left, Contains-append_right}
 use Rattle.ff_tables.specs.declared.orders.Order.{Order}
 use Rattle.ff_tables.specs.declared.orders.Order.TheVariants.{Below, Above}
 use Rattle.ff_tables.specs.declared.terms.Constraint.{Constraint}
@@ -12,16 +11,16 @@ use Rattle.ff_tables.specs.declared.givens.Given.{Given}
 use Rattle.ff_tables.specs.Orders.{term_at, turn, is_order, row_at}
 use Rattle.ff_tables.specs.Rows.{all_lists}
 use Rattle.ff_tables.specs.Systems.{AreFit}
-use Rattle.ff_tables.specs.Forces.{Meets, SomeAgrees, NoneAgrees, Knows, Forces}
+use Rattle.ff_tables.specs.Forces.{Meets, Knows}
 use Rattle.ff_tables.proofs.Agreeing.{turn_turn}
-use Rattle.ff_propagate.specs.Closure.{InClosure, IsClosed, IsClosure, Gives, IsGiven, HoldsGivens, Clashes}
+use Rattle.ff_propagate.specs.Closure.{InClosure, IsClosure, Gives, HoldsGivens, Clashes}
 use Rattle.ff_propagate.specs.Parts.{IsUndecided, AreConnected, IsPart, AreParts}
 use Rattle.ff_propagate.specs.Solutions.{has_row, joint, is_solution, solutions_of}
 use Rattle.ff_propagate.specs.Choices.{IsChoice, value_of, IsAssignmentOf}
 use Rattle.ff_propagate.proofs.Deciding.{has_row-decides, row_or_none}
 use Rattle.ff_propagate.proofs.Joining.{Stands, AreDistinct, joint_out, joint_at, joint_either, joint_keeps}
 use Rattle.ff_propagate.proofs.Quiet.{IsQuiet, closure_quiet, dead_forces, in_part, all_at, all_from, stands_contains, contains_stands}
-use Rattle.ff_parts.specs.Factors.{IsAllowed, HasAssignment, HasChoice, Factors, FactorsFor}
+use Rattle.ff_parts.specs.Factors.{IsAllowed, Factors, FactorsFor}
 
 turn_one : (b : Bool) (s t : Order) → turn b s ≡ turn b t → s ≡ t
 turn_one b s t e = sym (turn_turn b s) ∙ ap (turn b) e ∙ turn_turn b t
@@ -57,15 +56,15 @@ some_or_none (Some s) = inl (s, refl)
 -- an allowed assignment has the closure
 pub has_closure : (cons : List Constraint) (gs : List Given) (a : ℕ → Order) → IsAllowed cons gs a → (v : ℕ) (s : Order) → InClosure cons (Gives gs) v s → a v ≡ s
 has_closure cons gs a allowed v s inside = order_is (a v) s (inside (λ u t. is_order (a u) t) (record {
-    base_held = λ u t (i, g). is_order_of (a u) t (ap a (sym g.variable) ∙ some_same (allowed.holds i g.given g.there) ∙ g.value);
-    forced_held = λ c con u t is f.
-        let r = allowed.meets c con is in
-        let fl = (term_at con.terms f.0).flipped in
-        let x = (term_at con.terms f.0).var in
-        let e : row_at r.1 f.0 ≡ turn fl t = f.3 r.0 r.1 r.2 (λ j b l q. r.3 j b l (order_is (a (term_at con.terms j).var) (turn (term_at con.terms j).flipped b) q)) in
-        let d : row_at r.1 f.0 ≡ turn fl (a x) = r.3 f.0 (turn fl (a x)) f.1 (sym (turn_turn fl (a x))) in
-        is_order_of (a u) t (ap a (sym f.2) ∙ turn_one fl (a x) t (sym d ∙ e));
-  }))
+  base_held = λ u t (i, g). is_order_of (a u) t (ap a (sym g.variable) ∙ some_same (allowed.holds i g.given g.there) ∙ g.value);
+  forced_held = λ c con u t is f.
+      let r = allowed.meets c con is in
+      let fl = (term_at con.terms f.0).flipped in
+      let x = (term_at con.terms f.0).var in
+      let e : row_at r.1 f.0 ≡ turn fl t = f.3 r.0 r.1 r.2 (λ j b l q. r.3 j b l (order_is (a (term_at con.terms j).var) (turn (term_at con.terms j).flipped b) q)) in
+      let d : row_at r.1 f.0 ≡ turn fl (a x) = r.3 f.0 (turn fl (a x)) f.1 (sym (turn_turn fl (a x))) in
+      is_order_of (a u) t (ap a (sym f.2) ∙ turn_one fl (a x) t (sym d ∙ e));
+}))
 
 pub clash_allows_none : (cons : List Constraint) (gs : List Given) (a : ℕ → Order) → Clashes cons (Gives gs) → IsAllowed cons gs a → ⊥
 clash_allows_none cons gs a both allowed = order_clash (has_closure cons gs a allowed both.variable Below both.below) (has_closure cons gs a allowed both.variable Above both.above)
@@ -104,10 +103,10 @@ pub record Solves (cons : List Constraint) (value : ℕ → Option Order) (part 
 
 pub solution_is : (cons : List Constraint) (value : ℕ → Option Order) (part : List ℕ) (xs : List Order) → Contains (solutions_of cons value part) xs → Solves cons value part xs
 solution_is cons value part xs has = record {
-    long = All-contains (λ (ys : List Order). length ys ≡ length part) (solutions_of cons value part) xs
-        (All-filter (is_solution cons value part) (λ (ys : List Order). length ys ≡ length part) (all_lists (length part)) (all_long (length part))) has;
-    passes = All-contains (λ ys. is_solution cons value part ys ≡ true) (solutions_of cons value part) xs (filter_passes (is_solution cons value part) (all_lists (length part))) has;
-  }
+  long = All-contains (λ (ys : List Order). length ys ≡ length part) (solutions_of cons value part) xs
+      (All-filter (is_solution cons value part) (λ (ys : List Order). length ys ≡ length part) (all_lists (length part)) (all_long (length part))) has;
+  passes = All-contains (λ ys. is_solution cons value part ys ≡ true) (solutions_of cons value part) xs (filter_passes (is_solution cons value part) (all_lists (length part))) has;
+}
 
 pub is_solution_of : (cons : List Constraint) (value : ℕ → Option Order) (part : List ℕ) (xs : List Order) → Solves cons value part xs → Contains (solutions_of cons value part) xs
 is_solution_of cons value part xs s = filter_has (is_solution cons value part) (all_lists (length part)) xs (all_have (length part) xs s.long) s.passes
@@ -122,9 +121,9 @@ joint_from : (f g : ℕ → Option Order) (part : List ℕ) (xs : List Order) (v
 joint_from f g [] xs v l (i, m, e) = absurd (omega (arith, m))
 joint_from f g (u ∷ part) [] v l st = absurd (omega (arith, l))
 joint_from f g (u ∷ part) (x ∷ xs) v l st = elim (cases_eq u v) [
-    inl e ↦ ap (λ b. if b then Some x else joint f part xs v) (eq-eqb u v e) ∙ sym (ap (λ b. if b then Some x else joint g part xs v) (eq-eqb u v e))
+  | inl e ↦ ap (λ b. if b then Some x else joint f part xs v) (eq-eqb u v e) ∙ sym (ap (λ b. if b then Some x else joint g part xs v) (eq-eqb u v e))
   | inr ne ↦ ap (λ b. if b then Some x else joint f part xs v) (ne_eqb u v ne) ∙ joint_from f g part xs v (omega (arith, l)) (later st ne) ∙ sym (ap (λ b. if b then Some x else joint g part xs v) (ne_eqb u v ne))
-  ]
+]
   where
     later : Stands (u ∷ part) v → (u ≡ v → ⊥) → Stands part v
     later (zero, m, e) ne = absurd (ne e)
@@ -133,9 +132,9 @@ joint_from f g (u ∷ part) (x ∷ xs) v l st = elim (cases_eq u v) [
 joint_map : (f : ℕ → Option Order) (a : ℕ → Order) (part : List ℕ) (v : ℕ) → Stands part v → joint f part (map a part) v ≡ Some (a v)
 joint_map f a [] v (i, m, e) = absurd (omega (arith, m))
 joint_map f a (u ∷ part) v st = elim (cases_eq u v) [
-    inl e ↦ ap (λ b. if b then Some (a u) else joint f part (map a part) v) (eq-eqb u v e) ∙ ap (λ w. Some (a w)) e
+  | inl e ↦ ap (λ b. if b then Some (a u) else joint f part (map a part) v) (eq-eqb u v e) ∙ ap (λ w. Some (a w)) e
   | inr ne ↦ ap (λ b. if b then Some (a u) else joint f part (map a part) v) (ne_eqb u v ne) ∙ joint_map f a part v (later st ne)
-  ]
+]
   where
     later : Stands (u ∷ part) v → (u ≡ v → ⊥) → Stands part v
     later (zero, m, e) ne = absurd (ne e)
@@ -144,12 +143,12 @@ joint_map f a (u ∷ part) v st = elim (cases_eq u v) [
 stands_or_not : (part : List ℕ) (v : ℕ) → Stands part v ⊎ (Stands part v → ⊥)
 stands_or_not [] v = inr (λ (i, m, e). omega (arith, m))
 stands_or_not (u ∷ part) v = elim (cases_eq u v) [
-    inl e ↦ inl (0, omega arith, e)
+  | inl e ↦ inl (0, omega arith, e)
   | inr ne ↦ elim (stands_or_not part v) [
-      inl st ↦ inl (suc st.0, omega (arith, st.1), st.2)
+    | inl st ↦ inl (suc st.0, omega (arith, st.1), st.2)
     | inr away ↦ inr (λ st. none st ne away)
-    ]
   ]
+]
   where
     none : Stands (u ∷ part) v → (u ≡ v → ⊥) → (Stands part v → ⊥) → ⊥
     none (zero, m, e) ne away = ne e
@@ -184,14 +183,14 @@ module _ (vars : ℕ) (cons : List Constraint) (value : ℕ → Option Order) (f
   part_of [] choice all is v st = absurd st
   part_of (part ∷ parts) [] all is v st = absurd is
   part_of (part ∷ parts) (xs ∷ choice) all is v (inl st) = record {
-      part = part;
-      solution = xs;
-      is_part = all.0;
-      stands = st;
-      among = λ w at. inl at;
-      solves = solution_is cons value part xs is.0;
-      values = λ w at. joint_from (value_of value parts choice) value part xs w (solution_is cons value part xs is.0).long at;
-    }
+    part = part;
+    solution = xs;
+    is_part = all.0;
+    stands = st;
+    among = λ w at. inl at;
+    solves = solution_is cons value part xs is.0;
+    values = λ w at. joint_from (value_of value parts choice) value part xs w (solution_is cons value part xs is.0).long at;
+  }
   part_of (part ∷ parts) (xs ∷ choice) all is v (inr st) =
       let r = part_of parts choice all.2 is.1 v st in
       record {
@@ -214,12 +213,12 @@ module _ (vars : ℕ) (cons : List Constraint) (value : ℕ → Option Order) (f
     -- each variable has a value in a choice
     has_value : (choice : List (List Order)) → IsChoice cons value parts choice → (v : ℕ) → v < vars → (s : Order) × (value_of value parts choice v ≡ Some s)
     has_value choice is v l = elim (some_or_none (value v)) [
-        inl k ↦ (k.0, known_of parts choice all v k.0 k.1)
+      | inl k ↦ (k.0, known_of parts choice all v k.0 k.1)
       | inr none ↦ (
           let h = part_of parts choice all is v (covers v (record { variable = l; open_yet = none })) in
           let st = h.stands in
           (row_at h.solution st.0, h.values v st ∙ ap (joint value h.part h.solution) (sym st.2) ∙ joint_at value h.part h.solution st.0 (distinct h.part h.is_part) st.1 h.solves.long))
-      ]
+    ]
 
     abbrev value_or : Option Order → Order
     value_or None = Below
@@ -234,30 +233,30 @@ module _ (vars : ℕ) (cons : List Constraint) (value : ℕ → Option Order) (f
     find_open : (con : Constraint) (n : ℕ) → ((i : ℕ) × (i < n) × (value (term_at con.terms i).var ≡ None)) ⊎ ((j : ℕ) → j < n → (s : Order) × (value (term_at con.terms j).var ≡ Some s))
     find_open con zero = inr (λ j l. absurd (omega (arith, l)))
     find_open con (suc n) = elim (find_open con n) [
-        inl r ↦ inl (r.0, omega (arith, r.1), r.2)
+      | inl r ↦ inl (r.0, omega (arith, r.1), r.2)
       | inr known ↦ elim (some_or_none (value (term_at con.terms n).var)) [
-          inr none ↦ inl (n, omega arith, none)
+        | inr none ↦ inl (n, omega arith, none)
         | inl k ↦ inr (λ j l. elim (cases_eq j n) [ inl e ↦ (k.0, ap (λ i. value (term_at con.terms i).var) e ∙ k.1) | inr ne ↦ known j (omega (arith, l, ne)) ])
-        ]
       ]
+    ]
 
     choice_meets : (choice : List (List Order)) → IsChoice cons value parts choice → Meets cons (assigned choice)
     choice_meets choice is c con at = elim (find_open con (length con.terms)) [
-        inl o ↦ (
+      | inl o ↦ (
           let h = part_of parts choice all is (term_at con.terms o.0).var (covers (term_at con.terms o.0).var (record { variable = (fit c con at).within o.0 o.1; open_yet = o.2 })) in
           let r = (has_row-decides (joint value h.part h.solution) con).0 (all_at (has_row (joint value h.part h.solution)) cons c con h.solves.passes at) in
           let same : (j : ℕ) → j < length con.terms → joint value h.part h.solution (term_at con.terms j).var ≡ value_of value parts choice (term_at con.terms j).var = λ j l. elim (some_or_none (value (term_at con.terms j).var)) [
-                  inl k ↦ joint_keeps value h.part h.solution (term_at con.terms j).var k.0 (λ i m. (h.is_part.undecided i m).open_yet) k.1 ∙ sym (known_of parts choice all (term_at con.terms j).var k.0 k.1)
-                | inr none ↦ sym (h.values (term_at con.terms j).var (in_part vars cons value h.part fit h.is_part c con at o.0 j o.1 l h.stands none))
-                ] in
+            | inl k ↦ joint_keeps value h.part h.solution (term_at con.terms j).var k.0 (λ i m. (h.is_part.undecided i m).open_yet) k.1 ∙ sym (known_of parts choice all (term_at con.terms j).var k.0 k.1)
+            | inr none ↦ sym (h.values (term_at con.terms j).var (in_part vars cons value h.part fit h.is_part c con at o.0 j o.1 l h.stands none))
+          ] in
           (r.0, r.1, r.2, λ j b l e. r.3 j b l (same j l ∙ assigned_is choice is (term_at con.terms j).var ((fit c con at).within j l) ∙ ap (λ s. Some s) e)))
       | inr known ↦ elim (row_or_none value con) [
-          inl has ↦ (
+        | inl has ↦ (
             let r = (has_row-decides value con).0 has in
             (r.0, r.1, r.2, λ j b l e. r.3 j b l (let k = known j l in k.1 ∙ ap (λ s. Some s) (sym (ap value_or (known_of parts choice all (term_at con.terms j).var k.0 k.1)) ∙ e))))
         | inr none ↦ differ (quiet c con (term_at con.terms 0).var Below at (dead_forces vars cons fit c con at (Knows value) none Below)) (quiet c con (term_at con.terms 0).var Above at (dead_forces vars cons fit c con at (Knows value) none Above))
-        ]
       ]
+    ]
 
     choice_holds : (choice : List (List Order)) → HoldsGivens gs (λ v. Some (assigned choice v))
     choice_holds choice i g is =
@@ -270,17 +269,17 @@ module _ (vars : ℕ) (cons : List Constraint) (value : ℕ → Option Order) (f
 
     restricted_solves : (a : ℕ → Order) → IsAllowed cons gs a → (part : List ℕ) → Solves cons value part (map a part)
     restricted_solves a allowed part = record {
-        long = length-map part a;
-        passes = all_from (has_row (joint value part (map a part))) cons (λ c con at.
-            let r = allowed.meets c con at in
-            (has_row-decides (joint value part (map a part)) con).1 (r.0, r.1, r.2, λ j b l e. r.3 j b l (joint_is (term_at con.terms j).var (turn (term_at con.terms j).flipped b) e)));
-      }
+      long = length-map part a;
+      passes = all_from (has_row (joint value part (map a part))) cons (λ c con at.
+          let r = allowed.meets c con at in
+          (has_row-decides (joint value part (map a part)) con).1 (r.0, r.1, r.2, λ j b l e. r.3 j b l (joint_is (term_at con.terms j).var (turn (term_at con.terms j).flipped b) e)));
+    }
       where
         joint_is : (v : ℕ) (s : Order) → joint value part (map a part) v ≡ Some s → a v ≡ s
         joint_is v s e = elim (joint_either value part (map a part) v) [
-            inl st ↦ some_same (sym (joint_map value a part v st) ∙ e)
+          | inl st ↦ some_same (sym (joint_map value a part v st) ∙ e)
           | inr same ↦ has_closure cons gs a allowed v s ((exact v s).0 (sym same ∙ e))
-          ]
+        ]
 
     restricted_choice : (a : ℕ → Order) → IsAllowed cons gs a → (ps : List (List ℕ)) → IsChoice cons value ps (restricted a ps)
     restricted_choice a allowed [] = tt
@@ -289,15 +288,15 @@ module _ (vars : ℕ) (cons : List Constraint) (value : ℕ → Option Order) (f
     restricted_values : (a : ℕ → Order) (ps : List (List ℕ)) (v : ℕ) → InSome ps v → value_of value ps (restricted a ps) v ≡ Some (a v)
     restricted_values a [] v st = absurd st
     restricted_values a (part ∷ ps) v st = elim (stands_or_not part v) [
-        inl here ↦ joint_map (value_of value ps (restricted a ps)) a part v here
+      | inl here ↦ joint_map (value_of value ps (restricted a ps)) a part v here
       | inr away ↦ joint_out (value_of value ps (restricted a ps)) part (map a part) v away ∙ elim st [ inl here ↦ absurd (away here) | inr later ↦ restricted_values a ps v later ]
-      ]
+    ]
 
     restricted_assigns : (a : ℕ → Order) → IsAllowed cons gs a → IsAssignmentOf vars value parts (restricted a parts) a
     restricted_assigns a allowed v l = elim (some_or_none (value v)) [
-        inl k ↦ known_of parts (restricted a parts) all v k.0 k.1 ∙ ap (λ s. Some s) (sym (has_closure cons gs a allowed v k.0 ((exact v k.0).0 k.1)))
+      | inl k ↦ known_of parts (restricted a parts) all v k.0 k.1 ∙ ap (λ s. Some s) (sym (has_closure cons gs a allowed v k.0 ((exact v k.0).0 k.1)))
       | inr none ↦ restricted_values a parts v (covers v (record { variable = l; open_yet = none }))
-      ]
+    ]
 
   -- the choice is told by its values
   told : (ps : List (List ℕ)) (choice : List (List Order)) → AllParts vars cons value ps → IsChoice cons value ps choice → (a : ℕ → Order) → ((v : ℕ) → InSome ps v → value_of value ps choice v ≡ Some (a v)) → choice ≡ map (λ part. map a part) ps
@@ -307,8 +306,8 @@ module _ (vars : ℕ) (cons : List Constraint) (value : ℕ → Option Order) (f
   told (part ∷ ps) (xs ∷ choice) all is a h =
       let s = solution_is cons value part xs is.0 in
       let first : xs ≡ map a part = ext_get_or Below xs (map a part) (s.long ∙ sym (length-map part a)) (λ i l.
-              let m : i < length part = omega (arith, l, s.long) in
-              some_same (sym (joint_at (value_of value ps choice) part xs i (distinct part all.0) m s.long) ∙ h (slice_index part i) (inl (i, m, refl))) ∙ sym (get_or-map a part i 0 Below m)) in
+      let m : i < length part = omega (arith, l, s.long) in
+      some_same (sym (joint_at (value_of value ps choice) part xs i (distinct part all.0) m s.long) ∙ h (slice_index part i) (inl (i, m, refl))) ∙ sym (get_or-map a part i 0 Below m)) in
       let rest : choice ≡ map (λ p. map a p) ps = told ps choice all.2 is.1 a (λ v st. sym (joint_out (value_of value ps choice) part xs v (λ mine. all.1 v mine st)) ∙ h v (inr st)) in
       ap (λ ys. ys ∷ choice) first ∙ ap (λ c. map a part ∷ c) rest
 
@@ -328,20 +327,20 @@ module _ (vars : ℕ) (cons : List Constraint) (value : ℕ → Option Order) (f
 
   pub factors : (parts : List (List ℕ)) → AllParts vars cons value parts → ((v : ℕ) → IsUndecided vars value v → InSome parts v) → (gs : List Given) → IsClosure cons (Gives gs) value → Factors vars cons gs value parts
   factors parts all covers gs exact = record {
-      to_assignment = λ choice is. record {
-        assignment = assigned gs exact parts all covers choice;
-        of_choice = λ v l. assigned_is gs exact parts all covers choice is v l;
-        allowed = record { meets = choice_meets gs exact parts all covers choice is; holds = choice_holds gs exact parts all covers choice };
-      };
-      to_choice = λ a allowed. record {
-        choice = restricted gs exact parts all covers a parts;
-        is_choice = restricted_choice gs exact parts all covers a allowed parts;
-        of_choice = restricted_assigns gs exact parts all covers a allowed;
-      };
-      one_choice = λ a c d is_c is_d of_c of_d.
-          told parts c all is_c a (λ v st. of_c v (in_some_within parts all v st)) ∙ sym (told parts d all is_d a (λ v st. of_d v (in_some_within parts all v st)));
-      none = λ part has empty a allowed. has_solution parts (restricted gs exact parts all covers a parts) (restricted_choice gs exact parts all covers a allowed parts) part has empty;
-    }
+    to_assignment = λ choice is. record {
+      assignment = assigned gs exact parts all covers choice;
+      of_choice = λ v l. assigned_is gs exact parts all covers choice is v l;
+      allowed = record { meets = choice_meets gs exact parts all covers choice is; holds = choice_holds gs exact parts all covers choice };
+    };
+    to_choice = λ a allowed. record {
+      choice = restricted gs exact parts all covers a parts;
+      is_choice = restricted_choice gs exact parts all covers a allowed parts;
+      of_choice = restricted_assigns gs exact parts all covers a allowed;
+    };
+    one_choice = λ a c d is_c is_d of_c of_d.
+        told parts c all is_c a (λ v st. of_c v (in_some_within parts all v st)) ∙ sym (told parts d all is_d a (λ v st. of_d v (in_some_within parts all v st)));
+    none = λ part has empty a allowed. has_solution parts (restricted gs exact parts all covers a parts) (restricted_choice gs exact parts all covers a allowed parts) part has empty;
+  }
 
 -- from the list of parts by number
 shows : (ps : List (List ℕ)) (v : ℕ) → InSome ps v → (k : ℕ) × (part : List ℕ) × (slice_get ps k ≡ Some part) × Stands part v
@@ -360,9 +359,11 @@ in_some (p ∷ ps) v (suc k) part e st = inr (in_some ps v k part e st)
 all_parts : (vars : ℕ) (cons : List Constraint) (value : ℕ → Option Order) (ps : List (List ℕ)) → ((k : ℕ) (part : List ℕ) → slice_get ps k ≡ Some part → IsPart vars cons value part)
     → ((k m : ℕ) (p q : List ℕ) → k < m → slice_get ps k ≡ Some p → slice_get ps m ≡ Some q → (v : ℕ) → Stands p v → Stands q v → ⊥) → AllParts vars cons value ps
 all_parts vars cons value [] each apart = tt
-all_parts vars cons value (part ∷ ps) each apart = (each 0 part refl,
-    (λ v st later. let r = shows ps v later in apart 0 (suc r.0) part r.1 (omega arith) refl r.2 v st r.3),
-    all_parts vars cons value ps (λ k p e. each (suc k) p e) (λ k m p q l e f. apart (suc k) (suc m) p q (omega (arith, l)) e f))
+all_parts vars cons value (part ∷ ps) each apart = (
+  each 0 part refl,
+  (λ v st later. let r = shows ps v later in apart 0 (suc r.0) part r.1 (omega arith) refl r.2 v st r.3),
+  all_parts vars cons value ps (λ k p e. each (suc k) p e) (λ k m p q l e f. apart (suc k) (suc m) p q (omega (arith, l)) e f),
+)
 
 first_least : (vars : ℕ) (cons : List Constraint) (value : ℕ → Option Order) (p : List ℕ) → IsPart vars cons value p → (v : ℕ) → Stands p v → slice_index p 0 ≤ v
 first_least vars cons value p is v (zero, l, e) = omega (arith, e)

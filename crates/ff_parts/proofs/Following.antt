@@ -1,5 +1,5 @@
 -- Constraints are followed from the variables that were reached.
-use Rattle.std.proofs.Common.{List, get_or, ◌≡◌, ℕ, zero, suc, ◌+◌, ◌-◌, ◌<◌, ◌≤◌, ◌⊎◌, length, slice_get, slice_index, Option, Some, None, sym, ap, ◌∙◌, subst, inl, inr, arith, refl}
+use Rattle.std.proofs.Common.{List, get_or, ◌≡◌, ℕ, zero, suc, ◌+◌, ◌-◌, ◌<◌, ◌≤◌, ◌⊎◌, length, slice_get, slice_index, Option, Some, sym, ap, ◌∙◌, subst, inl, inr, arith}
 use Rattle.std.proofs.lemmas.Option.{slice_get_within, slice_get-get_or}
 use Rattle.std.proofs.lemmas.Bool.{cases_eq}
 use Rattle.ff_tables.specs.declared.orders.Order.{Order}
@@ -7,37 +7,37 @@ use Rattle.ff_tables.specs.declared.terms.Constraint.{Constraint}
 use Rattle.ff_tables.specs.Orders.{term_at}
 use Rattle.ff_propagate.specs.Chained.{Covers}
 use Rattle.ff_parts.specs.declared.labels.Labels.{Labels}
-use Rattle.ff_parts.specs.Labels.{label, AreAlike, IsOwn, AreMixed, Waits, Rests, Ready, AreOf, Spreads, IsSpreading, AllLabelled, HasOwn, HasVar}
-use Rattle.ff_parts.proofs.Reaching.{spreads_refl, spreads_trans, kept_label}
+use Rattle.ff_parts.specs.Labels.{label, AreAlike, IsOwn, AreMixed, Rests, Ready, AreOf, Spreads, IsSpreading, AllLabelled, HasVar}
+use Rattle.ff_parts.proofs.Reaching.{spreads_refl, spreads_trans}
 
 -- some place below n has Q, or each has P
 scan : (P Q : ℕ → Type 0) (n : ℕ) → ((j : ℕ) → P j ⊎ Q j) → ((j : ℕ) × (j < n) × Q j) ⊎ ((j : ℕ) → j < n → P j)
 scan P Q zero h = inr (λ j l. absurd (omega (arith, l)))
 scan P Q (suc n) h = elim (scan P Q n h) [
-    inl r ↦ inl (r.0, omega (arith, r.1), r.2)
+  | inl r ↦ inl (r.0, omega (arith, r.1), r.2)
   | inr all ↦ elim (h n) [
-      inl p ↦ inr (λ j l. elim (cases_eq j n) [ inl e ↦ subst P (sym e) p | inr ne ↦ all j (omega (arith, l, ne)) ])
+    | inl p ↦ inr (λ j l. elim (cases_eq j n) [ inl e ↦ subst P (sym e) p | inr ne ↦ all j (omega (arith, l, ne)) ])
     | inr q ↦ inl (n, omega arith, q)
-    ]
   ]
+]
 
 pub keeps : (value : ℕ → Option Order) (p : ℕ) (old new : Labels) (head : ℕ) (con : Constraint) → Spreads p old new → head ≤ length old.queue.items → Rests value old head con → Rests value new head con
 keeps value p old new head con x h (inl (i, j, a, b, l, e)) = inl (i, j, a, omega (arith, b, x.count), l, x.front i b ∙ e)
 keeps value p old new head con x h (inr alike) = elim (scan
-        (λ j. label new (term_at con.terms j).var ≡ label old (term_at con.terms j).var)
-        (λ j. (label old (term_at con.terms j).var ≡ 0) × (label new (term_at con.terms j).var ≡ p)
-            × ((i : ℕ) × (length old.queue.items ≤ i) × (i < length new.queue.items) × (slice_index new.queue.items i ≡ (term_at con.terms j).var)))
-        (length con.terms) (λ j. x.changed (term_at con.terms j).var)) [
-    inl r ↦ inl (r.2.2.0, r.0, omega (arith, h, r.2.2.1), r.2.2.2, r.1, r.2.2.3)
-  | inr same ↦ inr (λ i j li lj oi oj. same i li ∙ alike i j li lj oi oj ∙ sym (same j lj))
-  ]
+    (λ j. label new (term_at con.terms j).var ≡ label old (term_at con.terms j).var)
+    (λ j. (label old (term_at con.terms j).var ≡ 0) × (label new (term_at con.terms j).var ≡ p)
+    × ((i : ℕ) × (length old.queue.items ≤ i) × (i < length new.queue.items) × (slice_index new.queue.items i ≡ (term_at con.terms j).var)))
+    (length con.terms) (λ j. x.changed (term_at con.terms j).var)) [
+      | inl r ↦ inl (r.2.2.0, r.0, omega (arith, h, r.2.2.1), r.2.2.2, r.1, r.2.2.3)
+      | inr same ↦ inr (λ i j li lj oi oj. same i li ∙ alike i j li lj oi oj ∙ sym (same j lj))
+    ]
 
 -- where all are labelled and mixed they are alike
 labelled_alike : (value : ℕ → Option Order) (p : ℕ) (l : Labels) (con : Constraint) → AllLabelled value l con (length con.terms) → AreMixed value p l con → AreAlike value l con
 labelled_alike value p l con labelled mixed i j li lj oi oj = elim (mixed i j li lj oi oj) [
-    inl e ↦ e
+  | inl e ↦ e
   | inr (a, b) ↦ own a (labelled i li oi) ∙ sym (own b (labelled j lj oj))
-  ]
+]
   where
     own : {n : ℕ} → IsOwn p n → 0 < n → n ≡ p
     own (inl e) s = absurd (omega (arith, e, s))
@@ -57,10 +57,10 @@ begins cons value l head v k here ready covers c con at = sort (ready c con at)
     sort : Rests value l head con → Rests value l (head + 1) con ⊎ IsLeft con c v k
     sort (inr q) = inl (inr q)
     sort (inl (i, j, a, b, m, e)) = elim (cases_eq i head) [
-        inl s ↦ (let var : (term_at con.terms j).var ≡ v = sym e ∙ ap (slice_index l.queue.items) s ∙ here in
-            inr (covers c con j (slice_get_within cons c con at) at m var, (j, m, var)))
+      | inl s ↦ (let var : (term_at con.terms j).var ≡ v = sym e ∙ ap (slice_index l.queue.items) s ∙ here in
+          inr (covers c con j (slice_get_within cons c con at) at m var, (j, m, var)))
       | inr ne ↦ inl (inl (i, j, omega (arith, a, ne), b, m, e))
-      ]
+    ]
 
 -- one constraint is visited
 visits : (cons : List Constraint) (value : ℕ → Option Order) (p : ℕ) (old new : Labels) (head v k n : ℕ) → Spreads p old new → head ≤ length old.queue.items → Almost cons value old head v (n + 1)
@@ -70,9 +70,9 @@ visits cons value p old new head v k n x h almost here covers c con at = sort (a
     sort : Rests value old head con ⊎ IsLeft con c v (n + 1) → Rests value new head con ⊎ IsLeft con c v k
     sort (inl q) = inl (keeps value p old new head con x h q)
     sort (inr (l, (i, b, e))) = elim (cases_eq c n) [
-        inl s ↦ inl (here con (ap (slice_get cons) (sym s) ∙ at) (i, b, e))
+      | inl s ↦ inl (here con (ap (slice_get cons) (sym s) ∙ at) (i, b, e))
       | inr ne ↦ inr (covers c con i (omega (arith, l, ne)) at b e, (i, b, e))
-      ]
+    ]
 
 ends : (cons : List Constraint) (value : ℕ → Option Order) (l : Labels) (head v k : ℕ) → k ≤ 0 → Almost cons value l head v k → Ready cons value l head
 ends cons value l head v k z almost c con at = sort (almost c con at)
@@ -98,12 +98,12 @@ pub record IsVisiting (vars : ℕ) (cons : List Constraint) (value : ℕ → Opt
 pub visit_begins : (vars : ℕ) (cons : List Constraint) (value : ℕ → Option Order) (p head v left : ℕ) (l : Labels) → IsSpreading vars cons value p l → slice_index l.queue.items head ≡ v → label l (slice_index l.queue.items head) ≡ p
     → Ready cons value l head → left ≤ length cons → Covers cons (length cons) v left → IsVisiting vars cons value p head v left l l
 visit_begins vars cons value p head v left l s here own ready inside covers = record {
-    spreading = s;
-    spreads = spreads_refl p l;
-    inside = inside;
-    own = ap (label l) (sym here) ∙ own;
-    almost = begins cons value l head v left here ready covers;
-  }
+  spreading = s;
+  spreads = spreads_refl p l;
+  inside = inside;
+  own = ap (label l) (sym here) ∙ own;
+  almost = begins cons value l head v left here ready covers;
+}
 
 -- the constraint before left has the variable and is examined
 pub visit_on : (vars : ℕ) (cons : List Constraint) (value : ℕ → Option Order) (p head v left k : ℕ) (old now new : Labels) (con : Constraint) → IsVisiting vars cons value p head v left old now → head < length old.queue.items → 0 < left
@@ -134,15 +134,15 @@ pub record IsFollowing (vars : ℕ) (cons : List Constraint) (value : ℕ → Op
 pub follow_on : (vars : ℕ) (cons : List Constraint) (value : ℕ → Option Order) (p at : ℕ) (old now new : Labels) → IsFollowing vars cons value p at old now → at < length now.queue.items → IsSpreading vars cons value p new → Spreads p now new
     → Ready cons value new (at + 1) → IsFollowing vars cons value p (at + 1) old new
 follow_on vars cons value p at old now new f l s x ready = record {
-    spreading = s;
-    spreads = spreads_trans p old now new s.some f.spreads x;
-    inside = omega (arith, l, x.count);
-    own = λ i a b. elim (lt_or i (length now.queue.items)) [
-        inl m ↦ (let e = f.own i (omega (arith, a)) m in ap (label new) (x.front i m) ∙ x.kept (slice_index now.queue.items i) (omega (arith, e, s.some)) ∙ e)
-      | inr m ↦ x.added i m b
-      ];
-    ready = ready;
-  }
+  spreading = s;
+  spreads = spreads_trans p old now new s.some f.spreads x;
+  inside = omega (arith, l, x.count);
+  own = λ i a b. elim (lt_or i (length now.queue.items)) [
+    | inl m ↦ (let e = f.own i (omega (arith, a)) m in ap (label new) (x.front i m) ∙ x.kept (slice_index now.queue.items i) (omega (arith, e, s.some)) ∙ e)
+    | inr m ↦ x.added i m b
+  ];
+  ready = ready;
+}
   where
     lt_or : (i n : ℕ) → (i < n) ⊎ (n ≤ i)
     lt_or i zero = inr (omega arith)

@@ -1,5 +1,5 @@
 -- The variables of each label.
-use Rattle.std.specs.Prelude.{◌≡◌, ℕ, zero, suc, ◌+◌, ◌<◌, ◌==◌, ◌++◌, List, [], ◌∷◌, length, map, slice_index, slice_index_or, slice_set, if◌then◌else◌, Vec}
+use Rattle.std.specs.Prelude.{◌≡◌, ℕ, zero, suc, ◌<◌, ◌==◌, ◌++◌, List, [], ◌∷◌, length, map, slice_index, slice_index_or, slice_set, if◌then◌else◌, Vec}
 use Rattle.std.specs.declared.alloc.Global.{Global}
 
 abbrev pub lists_in : List (Vec ℕ Global) → List (List ℕ)

@@ -37,10 +37,8 @@ pub fn parts(alloc: Global, system: &System, facts: &Facts) -> Result<Items<Part
     requires board { IsBoardOf system.now.vars system.now.constraints facts.now }
     requires few { length system.now.constraints < 2 ^ 32 }
     ensures parts { IfOk result (λ found. AreParts system.now.vars system.now.constraints (value_at facts.now) (vars_of found)) }
-    ensures each {
-        IfOk result (λ found. (k : ℕ) (part : PartSpec) → slice_get found k ≡ Some part
-            → IsPart system.now.vars system.now.constraints (value_at facts.now) part.vars)
-    }
+    ensures each { IfOk result (λ found. (k : ℕ) (part : PartSpec) → slice_get found k ≡ Some part
+        → IsPart system.now.vars system.now.constraints (value_at facts.now) part.vars) }
     ensures factors { IfOk result (λ found. FactorsFor system.now.vars system.now.constraints (value_at facts.now) (vars_of found)) }
 {
     let labels = Labels::all(alloc, system, facts)?;

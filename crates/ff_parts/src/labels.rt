@@ -101,7 +101,14 @@ impl Labels {
     }
 
     // Follows constraints from the variables reached as the from-th and later.
-    pub(crate) fn spread(&mut self, system: &System, facts: &Facts, chains: &Chains, from: usize, part: u32)
+    pub(crate) fn spread(
+        &mut self,
+        system: &System,
+        facts: &Facts,
+        chains: &Chains,
+        from: usize,
+        part: u32,
+    )
         requires facts { length facts.now ≡ system.now.vars }
         requires few { length system.now.constraints < 2 ^ 32 }
         requires chains { IsChained system.now.vars system.now.constraints chains.now }

@@ -1,5 +1,5 @@
 -- The test of a constraint's rows decides whether one of them agrees with what is known.
-use Rattle.std.proofs.Common.{◌≡◌, ℕ, zero, suc, ◌↔◌, ◌⊎◌, inl, inr, Bool, true, false, ◌||◌, List, [], ◌∷◌, refl, sym, subst, ap, ◌∙◌, Option, Some, None, slice_get, length}
+use Rattle.std.proofs.Common.{◌≡◌, ℕ, zero, suc, ◌↔◌, ◌⊎◌, inl, inr, Bool, true, false, ◌||◌, List, [], ◌∷◌, refl, sym, subst, ap, ◌∙◌, Option, Some, slice_get, length}
 use Rattle.std.specs.List.{list_any}
 use Rattle.ff_tables.specs.declared.orders.Order.{Order}
 use Rattle.ff_tables.specs.declared.terms.Constraint.{Constraint}
@@ -39,6 +39,7 @@ has_row-decides value con = (to, from)
   where
     to : has_row value con ≡ true → SomeAgrees con.kind con.terms (Knows value)
     to h = let r = any_to (agrees_below con.terms value (length con.terms)) (rows_of con.kind) h in (r.0, r.1, r.2, (agrees_tested con.terms value r.1).0 r.3)
+
     from : SomeAgrees con.kind con.terms (Knows value) → has_row value con ≡ true
     from (k, row, e, agrees) = any_from (agrees_below con.terms value (length con.terms)) (rows_of con.kind) k row e ((agrees_tested con.terms value row).1 agrees)
 

@@ -1,8 +1,7 @@
 -- Values of a part's variables, joined with those of a board.
-use Rattle.std.proofs.Common.{◌≡◌, ℕ, zero, suc, ◌+◌, ◌<◌, ◌==◌, ◌⊎◌, inl, inr, Bool, true, false, List, [], ◌∷◌, length, get_or, slice_index, slice_get, refl, sym, ap, ◌∙◌, subst, arith, Option, Some, None, if◌then◌else◌}
+use Rattle.std.proofs.Common.{◌≡◌, ℕ, zero, suc, ◌<◌, ◌==◌, ◌⊎◌, inl, inr, List, [], ◌∷◌, length, slice_index, refl, sym, ap, ◌∙◌, arith, Option, Some, None, if◌then◌else◌}
 use Rattle.std.proofs.lemmas.Bool.{cases_eq, eq-eqb, ne_eqb}
 use Rattle.ff_tables.specs.declared.orders.Order.{Order}
-use Rattle.ff_tables.specs.declared.orders.Order.TheVariants.{Below, Above}
 use Rattle.ff_tables.specs.Orders.{row_at}
 use Rattle.ff_propagate.specs.Solutions.{joint}
 
@@ -39,12 +38,12 @@ pub joint_either : (value : ℕ → Option Order) (vars : List ℕ) (xs : List O
 joint_either value [] xs v = inr refl
 joint_either value (u ∷ vars) [] v = inr refl
 joint_either value (u ∷ vars) (x ∷ xs) v = elim (cases_eq u v) [
-    inl e ↦ inl (0, omega arith, e)
+  | inl e ↦ inl (0, omega arith, e)
   | inr n ↦ elim (joint_either value vars xs v) [
-      inl s ↦ inl (suc s.0, omega (arith, s.1), s.2)
+    | inl s ↦ inl (suc s.0, omega (arith, s.1), s.2)
     | inr e ↦ inr (head_isnt u v (Some x) (joint value vars xs v) n ∙ e)
-    ]
   ]
+]
 
 -- where nothing is known, the variable isn't of the part
 later : (u : ℕ) (vars : List ℕ) (v : ℕ) → Stands (u ∷ vars) v → (u ≡ v → ⊥) → Stands vars v
@@ -59,9 +58,9 @@ pub joint_none : (value : ℕ → Option Order) (vars : List ℕ) (xs : List Ord
 joint_none value [] xs v m e (i, l, s) = omega (arith, l)
 joint_none value (u ∷ vars) [] v m e s = omega (arith, m)
 joint_none value (u ∷ vars) (x ∷ xs) v m e s = elim (cases_eq u v) [
-    inl q ↦ some_none x (sym (head_is u v (Some x) (joint value vars xs v) q) ∙ e)
+  | inl q ↦ some_none x (sym (head_is u v (Some x) (joint value vars xs v) q) ∙ e)
   | inr n ↦ joint_none value vars xs v (omega (arith, m)) (sym (head_isnt u v (Some x) (joint value vars xs v) n) ∙ e) (later u vars v s n)
-  ]
+]
 
 pub joint_keeps : (value : ℕ → Option Order) (vars : List ℕ) (xs : List Order) (v : ℕ) (s : Order) → ((i : ℕ) → i < length vars → value (slice_index vars i) ≡ None) → value v ≡ Some s
     → joint value vars xs v ≡ Some s

@@ -1,20 +1,18 @@
 -- Values under which no constraint forces more: those of a board.
-use Rattle.std.proofs.Common.{◌≡◌, ℕ, zero, suc, ◌+◌, ◌<◌, ◌⊎◌, inl, inr, Bool, true, false, ◌&&◌, List, [], ◌∷◌, length, get_or, slice_index, slice_get, IsTrue, refl, sym, ap, ◌∙◌, subst, arith, Option, Some, None, Contains}
+use Rattle.std.proofs.Common.{◌≡◌, ℕ, zero, suc, ◌<◌, Bool, true, false, ◌&&◌, List, [], ◌∷◌, length, slice_index, slice_get, IsTrue, refl, sym, ◌∙◌, subst, arith, Option, Some, None, Contains}
 use Rattle.std.proofs.lemmas.List.{get_or_default}
 use Rattle.std.specs.List.{list_all}
 use Rattle.ff_tables.specs.declared.orders.Order.{Order}
-use Rattle.ff_tables.specs.declared.orders.Order.TheVariants.{Below, Above}
 use Rattle.ff_tables.specs.declared.terms.Kind.{Kind}
 use Rattle.ff_tables.specs.declared.terms.Kind.TheVariants.{TacoTaco, TacoTortilla, TortillaTortilla, Transitivity}
-use Rattle.ff_tables.specs.declared.terms.Term.{Term}
 use Rattle.ff_tables.specs.declared.terms.Constraint.{Constraint}
 use Rattle.ff_tables.specs.Orders.{term_at}
 use Rattle.ff_tables.specs.Rows.{arity}
 use Rattle.ff_tables.specs.Systems.{AreFit}
 use Rattle.ff_tables.specs.Forces.{Forces, Knows, NoneAgrees}
 use Rattle.ff_tables.proofs.Agreeing.{forces_more}
-use Rattle.ff_propagate.specs.Closure.{InClosure, IsClosed, IsClosure}
-use Rattle.ff_propagate.specs.Parts.{IsPart, IsUndecided, AreLinked, AreConnected, StandTogether}
+use Rattle.ff_propagate.specs.Closure.{InClosure, IsClosure}
+use Rattle.ff_propagate.specs.Parts.{IsPart, IsUndecided, AreLinked}
 use Rattle.ff_propagate.proofs.Joining.{Stands}
 
 -- what a constraint forces is known
@@ -57,11 +55,20 @@ in_part vars cons value part fit is c con at i j li lj (k, lk, e) none =
     let u = slice_index part k in
     let w_open : IsUndecided vars value w = record { variable = (fit c con at).within j lj; open_yet = none } in
     let link : AreLinked vars cons value u w = record {
-        first = is.undecided k lk;
-        second = w_open;
-        together = record { number = c; constraint = con; there = at; first = i; second = j;
-            first_inside = li; second_inside = lj; first_is = sym e; second_is = refl };
-      } in
+      first = is.undecided k lk;
+      second = w_open;
+      together = record {
+        number = c;
+        constraint = con;
+        there = at;
+        first = i;
+        second = j;
+        first_inside = li;
+        second_inside = lj;
+        first_is = sym e;
+        second_is = refl;
+      };
+    } in
     contains_stands part w ((is.class k w lk w_open).0 (w ∷ [], (link, refl)))
 
 pub all_at : {X : Type 0} (p : X → Bool) (xs : List X) (k : ℕ) (x : X) → list_all p xs ≡ true → slice_get xs k ≡ Some x → p x ≡ true
@@ -73,6 +80,7 @@ all_at p (y ∷ xs) zero x h e = subst (λ z. p z ≡ true) (same y x e) (front 
   where
     same : {X : Type 0} (x y : X) → Some x ≡ Some y → x ≡ y
     same x y e = cc
+
     front : (b c : Bool) → (b && c) ≡ true → b ≡ true
     front true c e = refl
     front false c e = e

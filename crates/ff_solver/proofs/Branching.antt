@@ -1,21 +1,20 @@
 -- A value is tried, and its branch is left and taken up again.
-use Rattle.std.proofs.Common.{◌≡◌, ℕ, zero, suc, ◌+◌, ◌<◌, ◌≤◌, ◌⊎◌, ◌==◌, inl, inr, List, [], ◌∷◌, ◌++◌, length, reverse, drop, take, get_or, set, slice_index, slice_get, refl, sym, ap, ◌∙◌, subst, arith, Option, Some, None, if◌then◌else◌, Contains}
-use Rattle.std.specs.Vec.{vec_len, vec_capacity}
+use Rattle.std.proofs.Common.{◌≡◌, ℕ, zero, suc, ◌+◌, ◌<◌, ◌≤◌, ◌⊎◌, inl, inr, List, [], ◌∷◌, ◌++◌, length, reverse, drop, take, get_or, set, slice_index, refl, sym, ap, ◌∙◌, subst, arith, Option, Some, None, if◌then◌else◌, Contains}
+use Rattle.std.specs.Vec.{vec_capacity}
 use Rattle.std.proofs.lemmas.Bool.{cases_eq, eq-eqb}
-use Rattle.std.proofs.lemmas.List.{length-append, length-take-le, get_or-take, get_or_push, get_or_append_left, reverse-append, drop-append-le, drop_all, append_assoc, drop_more, length-reverse, get_or_read}
-use Rattle.std.proofs.lemmas.Option.{slice_get_within}
+use Rattle.std.proofs.lemmas.List.{length-append, length-take-le, get_or-take, get_or_push, get_or_append_left, reverse-append, drop-append-le, drop_all, drop_more, length-reverse, get_or_read}
 use Rattle.ff_tables.specs.declared.orders.Order.{Order}
 use Rattle.ff_tables.specs.declared.orders.Order.TheVariants.{Below, Above}
 use Rattle.ff_tables.specs.declared.terms.Term.{Term}
 use Rattle.ff_tables.specs.declared.terms.Constraint.{Constraint}
 use Rattle.ff_tables.specs.Orders.{term_at}
 use Rattle.ff_tables.specs.Forces.{Knows}
-use Rattle.ff_propagate.specs.Trees.{Tree, With, AtNode, IsTreeAt, visits}
+use Rattle.ff_propagate.specs.Trees.{Tree, AtNode, IsTreeAt, visits}
 use Rattle.ff_solver.specs.declared.trail.Trail.{Trail}
 use Rattle.ff_solver.specs.declared.path.Path.{Path}
-use Rattle.ff_solver.specs.Trails.{known, cut, without, IsTrail, IsSet, IsSilent, Waits, Rests, Ready}
-use Rattle.ff_solver.specs.Paths.{AreSilent, IsAtNode, AreMarks, IsPath, IsBranch, AreBranches, ArePending, AreNext, AreLeft, IsReady, nodes_of, Nodes}
-use Rattle.ff_solver.proofs.Setting.{without_push, known_set, known_other, trail_set, trail_long, trail_room}
+use Rattle.ff_solver.specs.Trails.{known, cut, without, IsTrail, IsSet, Ready}
+use Rattle.ff_solver.specs.Paths.{AreSilent, IsAtNode, AreMarks, IsPath, IsBranch, AreBranches, ArePending, AreNext, nodes_of, Nodes}
+use Rattle.ff_solver.proofs.Setting.{without_push, known_set, known_other, trail_set, trail_room}
 use Rattle.ff_solver.proofs.Visits.{silent_same}
 use Rattle.ff_solver.proofs.Listing.{tried_or_now, tried_now, tried_before}
 
@@ -27,9 +26,9 @@ silent_alike cons f g alike silent c con is = silent_same con f g (λ j l. alike
 
 node_alike : (cons : List Constraint) (value : ℕ → Option Order) (tried : List (ℕ × Order)) (f g : ℕ → Option Order) → Alike f g → IsAtNode cons value tried f → IsAtNode cons value tried g
 node_alike cons value tried f g alike node = record {
-    inside = λ v s e. node.inside v s (sym (alike v) ∙ e);
-    holds = λ v s w. alike v ∙ node.holds v s w;
-  }
+  inside = λ v s e. node.inside v s (sym (alike v) ∙ e);
+  holds = λ v s w. alike v ∙ node.holds v s w;
+}
 
 -- what was known and decided before the trail had this length is the same
 pub record AreAlike (old new : Trail) (bound : ℕ) : Type 0 where
@@ -46,10 +45,10 @@ marks_alike cons old new bound (m ∷ marks) alike are = (are.0, silent_alike co
 branch_alike : (cons : List Constraint) (value : ℕ → Option Order) (part : List ℕ) (old new : Trail) (m : ℕ) (tree : Tree) → Alike (cut old m) (cut new m) → slice_index new.vars.items m ≡ slice_index old.vars.items m
     → IsBranch cons value part old m tree → IsBranch cons value part new m tree
 branch_alike cons value part old new m tree alike same b = record {
-    tried = b.tried;
-    node = node_alike cons value b.tried (cut old m) (cut new m) alike b.node;
-    below = subst (λ v. IsTreeAt cons (Knows value) part ((v, Above) ∷ b.tried) tree) (sym same) b.below;
-  }
+  tried = b.tried;
+  node = node_alike cons value b.tried (cut old m) (cut new m) alike b.node;
+  below = subst (λ v. IsTreeAt cons (Knows value) part ((v, Above) ∷ b.tried) tree) (sym same) b.below;
+}
 
 pub branches_alike : (cons : List Constraint) (value : ℕ → Option Order) (part : List ℕ) (old new : Trail) (bound : ℕ) (marks : List ℕ) (trees : List Tree) → AreAlike old new bound → AreMarks cons old bound marks
     → AreBranches cons value part old marks trees → AreBranches cons value part new marks trees
@@ -57,8 +56,9 @@ branches_alike cons value part old new bound [] [] alike are b = b
 branches_alike cons value part old new bound [] (t ∷ trees) alike are b = absurd b
 branches_alike cons value part old new bound (m ∷ marks) [] alike are b = absurd b
 branches_alike cons value part old new bound (m ∷ marks) (tree ∷ trees) alike are b = (
-    branch_alike cons value part old new m tree (alike.cuts m are.0) (alike.vars m are.0) b.0,
-    branches_alike cons value part old new m marks trees (below_bound old new bound m are.0 alike) are.2 b.1)
+  branch_alike cons value part old new m tree (alike.cuts m are.0) (alike.vars m are.0) b.0,
+  branches_alike cons value part old new m marks trees (below_bound old new bound m are.0 alike) are.2 b.1,
+)
 
 cut_set : (old : Trail) (v : ℕ) (s : Order) (new : Trail) → IsSet old v s new → known old v ≡ None → (m : ℕ) → m ≤ length old.vars.items → Alike (cut old m) (cut new m)
 cut_set old v s new set none m l w = ap (λ vs. without (known new) vs w) (ap (drop m) set.vars ∙ drop-append-le m old.vars.items (v ∷ []) l)
@@ -67,9 +67,9 @@ cut_set old v s new set none m l w = ap (λ vs. without (known new) vs w) (ap (d
 -- a variable is set
 set_alike : (old : Trail) (v : ℕ) (s : Order) (new : Trail) → IsSet old v s new → known old v ≡ None → AreAlike old new (length old.vars.items)
 set_alike old v s new set none = record {
-    cuts = λ m l w. cut_set old v s new set none m (omega (arith, l)) w;
-    vars = λ m l. ap (λ xs. get_or xs m 0) set.vars ∙ get_or_append_left old.vars.items (v ∷ []) 0 m l;
-  }
+  cuts = λ m l w. cut_set old v s new set none m (omega (arith, l)) w;
+  vars = λ m l. ap (λ xs. get_or xs m 0) set.vars ∙ get_or_append_left old.vars.items (v ∷ []) 0 m l;
+}
 
 -- what was known when the trail had its present length
 cut_now : (t : Trail) (m : ℕ) → length t.vars.items ≤ m → Alike (known t) (cut t m)
@@ -83,56 +83,63 @@ some_same e = cc
 
 at_node_more : (cons : List Constraint) (value : ℕ → Option Order) (tried : List (ℕ × Order)) (v : ℕ) (s : Order) (w : ℕ) (t : Order) → AtNode cons (Knows value) tried w t → AtNode cons (Knows value) ((v, s) ∷ tried) w t
 at_node_more cons value tried v s w t inside set closed = inside set (record {
-    base_held = λ u b with_it. elim with_it [
-        inl k ↦ closed.base_held u b (inl k)
-      | inr among ↦ closed.base_held u b (inr (tried_before v s tried u b among))
-      ];
-    forced_held = closed.forced_held;
-  })
+  base_held = λ u b with_it. elim with_it [
+    | inl k ↦ closed.base_held u b (inl k)
+    | inr among ↦ closed.base_held u b (inr (tried_before v s tried u b among))
+  ];
+  forced_held = closed.forced_held;
+})
 
 -- one more variable is tried
 pub node_set : (cons : List Constraint) (value : ℕ → Option Order) (tried : List (ℕ × Order)) (f g : ℕ → Option Order) (v : ℕ) (s : Order) → IsAtNode cons value tried f → f v ≡ None → g v ≡ Some s
     → ((w : ℕ) → (w ≡ v → ⊥) → g w ≡ f w) → IsAtNode cons value ((v, s) ∷ tried) g
 node_set cons value tried f g v s node none here other = record {
-    inside = λ w t e. elim (cases_eq w v) [
-        inl q ↦ (let same : s ≡ t = some_same (sym here ∙ ap g (sym q) ∙ e) in
-            λ set closed. closed.base_held w t (inr (moved (sym q) same (tried_now v s tried))))
-      | inr n ↦ at_node_more cons value tried v s w t (node.inside w t (sym (other w n) ∙ e))
-      ];
-    holds = λ w t with_it. elim with_it [
-        inl k ↦ old w t (node.holds w t (inl k))
-      | inr among ↦ elim (tried_or_now v s tried w t among) [
-          inl now ↦ ap g now.0 ∙ here ∙ ap (λ b. Some b) (sym now.1)
-        | inr before ↦ old w t (node.holds w t (inr before))
-        ]
-      ];
-  }
+  inside = λ w t e. elim (cases_eq w v) [
+    | inl q ↦ (let same : s ≡ t = some_same (sym here ∙ ap g (sym q) ∙ e) in
+        λ set closed. closed.base_held w t (inr (moved (sym q) same (tried_now v s tried))))
+    | inr n ↦ at_node_more cons value tried v s w t (node.inside w t (sym (other w n) ∙ e))
+  ];
+  holds = λ w t with_it. elim with_it [
+    | inl k ↦ old w t (node.holds w t (inl k))
+    | inr among ↦ elim (tried_or_now v s tried w t among) [
+      | inl now ↦ ap g now.0 ∙ here ∙ ap (λ b. Some b) (sym now.1)
+      | inr before ↦ old w t (node.holds w t (inr before))
+    ]
+  ];
+}
   where
     moved : {a b : ℕ} {x y : Order} → a ≡ b → x ≡ y → Contains ((v, s) ∷ tried) (a, x) → Contains ((v, s) ∷ tried) (b, y)
     moved {a} {b} {x} {y} p q among = subst (λ z. Contains ((v, s) ∷ tried) (b, z)) q (subst (λ n. Contains ((v, s) ∷ tried) (n, x)) p among)
+
     old : (w : ℕ) (t : Order) → f w ≡ Some t → g w ≡ Some t
     old w t e = elim (cases_eq w v) [
-        inl q ↦ some_none (ap f (sym q) ∙ e) none
+      | inl q ↦ some_none (ap f (sym q) ∙ e) none
       | inr n ↦ other w n ∙ e
-      ]
+    ]
 
 find_var : (ts : List Term) (v n : ℕ) → ((j : ℕ) × (j < n) × ((term_at ts j).var ≡ v)) ⊎ ((j : ℕ) → j < n → (term_at ts j).var ≡ v → ⊥)
 find_var ts v zero = inr (λ j l e. omega (arith, l))
 find_var ts v (suc n) = elim (find_var ts v n) [
-    inl r ↦ inl (r.0, omega (arith, r.1), r.2)
+  | inl r ↦ inl (r.0, omega (arith, r.1), r.2)
   | inr none ↦ elim (cases_eq (term_at ts n).var v) [
-      inl e ↦ inl (n, omega arith, e)
+    | inl e ↦ inl (n, omega arith, e)
     | inr ne ↦ inr (λ j l e. elim (cases_eq j n) [ inl q ↦ ne (ap (λ k. (term_at ts k).var) (sym q) ∙ e) | inr m ↦ none j (omega (arith, l, m)) e ])
-    ]
   ]
+]
 
 -- the constraints of the variable that was set wait
 pub ready_set : (cons : List Constraint) (old : Trail) (v : ℕ) (s : Order) (new : Trail) → IsSet old v s new → AreSilent cons (known old) → Ready cons new (length old.vars.items) (length cons)
 ready_set cons old v s new set silent c con l is = elim (find_var con.terms v (length con.terms)) [
-    inl r ↦ inl (length old.vars.items, r.0, omega arith, omega (arith, ap length set.vars, length-append old.vars.items (v ∷ [])), r.1,
-        ap (λ xs. get_or xs (length old.vars.items) 0) set.vars ∙ get_or_push old.vars.items v 0 (length old.vars.items) refl ∙ sym r.2)
+  | inl r ↦ inl (
+    length old.vars.items,
+    r.0,
+    omega arith,
+    omega (arith, ap length set.vars, length-append old.vars.items (v ∷ [])),
+    r.1,
+    ap (λ xs. get_or xs (length old.vars.items) 0) set.vars ∙ get_or_push old.vars.items v 0 (length old.vars.items) refl ∙ sym r.2,
+  )
   | inr away ↦ inr (silent_same con (known old) (known new) (λ j m. known_other old v s new set (term_at con.terms j).var (away j m)) (silent c con is))
-  ]
+]
 
 pub reverse_push : (ms : List ℕ) (m : ℕ) → reverse (ms ++ m ∷ []) ≡ m ∷ reverse ms
 reverse_push ms m = reverse-append ms (m ∷ [])
@@ -154,10 +161,11 @@ branched_path vars cons old v new is l none silent b =
     let long : length new.trail.vars.items ≡ length t.vars.items + 1 = ap length b.set.vars ∙ length-append t.vars.items (v ∷ []) in
     record {
       trail = trail_set vars t v Below new.trail is.trail b.set l none;
-      marks = subst (λ ms. AreMarks cons new.trail (length new.trail.vars.items) ms) (sym (ap reverse b.branches ∙ reverse_push old.branches.items (length t.vars.items)))
-          (omega (arith, long),
-          silent_alike cons (known t) (cut new.trail (length t.vars.items)) (λ w. cut_set t v Below new.trail b.set none (length t.vars.items) (omega arith) w ∙ cut_now t (length t.vars.items) (omega arith) w) silent,
-          marks_alike cons t new.trail (length t.vars.items) (reverse old.branches.items) (set_alike t v Below new.trail b.set none) is.marks);
+      marks = subst (λ ms. AreMarks cons new.trail (length new.trail.vars.items) ms) (sym (ap reverse b.branches ∙ reverse_push old.branches.items (length t.vars.items))) (
+        omega (arith, long),
+        silent_alike cons (known t) (cut new.trail (length t.vars.items)) (λ w. cut_set t v Below new.trail b.set none (length t.vars.items) (omega arith) w ∙ cut_now t (length t.vars.items) (omega arith) w) silent,
+        marks_alike cons t new.trail (length t.vars.items) (reverse old.branches.items) (set_alike t v Below new.trail b.set none) is.marks,
+      );
       room = omega (arith, is.room, b.room);
     }
 
@@ -177,13 +185,14 @@ branched_left vars cons old v new is none b l value part tried below above nodes
       below = tb;
       pending = record {
         trees = above ∷ pending.trees;
-        branches = subst (λ ms. AreBranches cons value part new.trail ms (above ∷ pending.trees)) (sym (ap reverse b.branches ∙ reverse_push old.branches.items m))
-            (record {
-              tried = tried;
-              node = node_alike cons value tried (known t) (cut new.trail m) (λ w. cut_set t v Below new.trail b.set none m (omega arith) w ∙ cut_now t m (omega arith) w) node;
-              below = subst (λ u. IsTreeAt cons (Knows value) part ((u, Above) ∷ tried) above) (sym here) ta;
-            },
-            branches_alike cons value part t new.trail m (reverse old.branches.items) pending.trees (set_alike t v Below new.trail b.set none) is.marks pending.branches);
+        branches = subst (λ ms. AreBranches cons value part new.trail ms (above ∷ pending.trees)) (sym (ap reverse b.branches ∙ reverse_push old.branches.items m)) (
+          record {
+            tried = tried;
+            node = node_alike cons value tried (known t) (cut new.trail m) (λ w. cut_set t v Below new.trail b.set none m (omega arith) w ∙ cut_now t m (omega arith) w) node;
+            below = subst (λ u. IsTreeAt cons (Knows value) part ((u, Above) ∷ tried) above) (sym here) ta;
+          },
+          branches_alike cons value part t new.trail m (reverse old.branches.items) pending.trees (set_alike t v Below new.trail b.set none) is.marks pending.branches,
+        );
         are = ap (λ ns. visits above ++ ns) pending.are;
       };
       are = refl;
@@ -307,10 +316,10 @@ pub taken : (vars : ℕ) (cons : List Constraint) (old : Path) (m v : ℕ) (mid 
     → vec_capacity new.branches ≡ vec_capacity old.branches → v ≡ get_or old.trail.vars.items m v → IsTrail vars mid → mid.vars.items ≡ take m old.trail.vars.items
     → ((k : ℕ) → k ≤ m → Alike (cut old.trail k) (cut mid k)) → IsTakenUp vars old m v mid new
 taken vars cons old m v mid new is popped room read trail front same = record {
-    popped = popped;
-    room = room;
-    var = sym (get_or_read old.trail.vars.items m v (last_mark vars cons old m new.branches.items is popped).within read 0);
-    mid_trail = trail;
-    mid_vars = front;
-    same = same;
-  }
+  popped = popped;
+  room = room;
+  var = sym (get_or_read old.trail.vars.items m v (last_mark vars cons old m new.branches.items is popped).within read 0);
+  mid_trail = trail;
+  mid_vars = front;
+  same = same;
+}

@@ -1,15 +1,14 @@
 -- What the tree below a node is, by the values at the node.
-use Rattle.std.proofs.Common.{◌≡◌, ℕ, zero, suc, ◌+◌, ◌<◌, ◌≤◌, ◌⊎◌, inl, inr, Bool, true, false, List, [], ◌∷◌, ◌++◌, length, get_or, slice_index, slice_get, refl, sym, ap, ◌∙◌, subst, arith, Option, Some, None, Contains}
+use Rattle.std.proofs.Common.{◌≡◌, ℕ, ◌<◌, ◌⊎◌, inl, inr, true, List, ◌∷◌, length, get_or, slice_index, slice_get, refl, sym, ap, ◌∙◌, subst, Option, Some, None}
 use Rattle.std.proofs.lemmas.Bool.{cases_order}
 use Rattle.ff_tables.specs.declared.orders.Order.{Order}
 use Rattle.ff_tables.specs.declared.orders.Order.TheVariants.{Below, Above}
 use Rattle.ff_tables.specs.declared.terms.Constraint.{Constraint}
 use Rattle.ff_tables.specs.Orders.{term_at}
 use Rattle.ff_tables.specs.Systems.{AreFit}
-use Rattle.ff_tables.specs.Forces.{Forces, Knows, NoneAgrees}
+use Rattle.ff_tables.specs.Forces.{Knows, NoneAgrees}
 use Rattle.ff_tables.proofs.Agreeing.{forces_more}
-use Rattle.ff_propagate.specs.Closure.{InClosure, IsClosed, Clashes}
-use Rattle.ff_propagate.specs.Trees.{Tree, Clash, Full, Fork, With, AtNode, IsTreeAt, HasValues, IsBranching, IsClashNode}
+use Rattle.ff_propagate.specs.Trees.{Tree, Clash, Full, Fork, With, AtNode, IsTreeAt, IsClashNode}
 use Rattle.ff_propagate.proofs.Quiet.{dead_forces, closure_forced}
 use Rattle.ff_solver.specs.Paths.{AreSilent, IsAtNode}
 use Rattle.ff_solver.proofs.Nodes.{test, test_some, some_test}
@@ -37,9 +36,9 @@ module _ (cons : List Constraint) (value : ℕ → Option Order) (part : List �
     -- where no constraint forces more the values are the node's closure
     pub settled : (v : ℕ) (s : Order) → AtNode cons (Knows value) tried v s → f v ≡ Some s
     settled v s inside = test_some (f v) s (inside (λ u t. test (f u) t) (record {
-        base_held = λ u t b. some_test (f u) t (node.holds u t b);
-        forced_held = λ c con u t is force. some_test (f u) t (silent c con is u t (forces_more con.kind con.terms (λ y b. test (f y) b ≡ true) (Knows f) u t (λ j b l q. test_some (f (term_at con.terms j).var) b q) force));
-      }))
+      base_held = λ u t b. some_test (f u) t (node.holds u t b);
+      forced_held = λ c con u t is force. some_test (f u) t (silent c con is u t (forces_more con.kind con.terms (λ y b. test (f y) b ≡ true) (Knows f) u t (λ j b l q. test_some (f (term_at con.terms j).var) b q) force));
+    }))
 
     pub calm : IsClashNode cons (Knows value) tried → ⊥
     calm both = differ (settled both.variable Below both.below) (settled both.variable Above both.above)
@@ -55,9 +54,9 @@ module _ (cons : List Constraint) (value : ℕ → Option Order) (part : List �
     full_tree Clash both decided = absurd (calm both)
     full_tree (Full values) (_, have) decided = record { values = values; as_many = have.as_many; each = λ j l. settled (slice_index part j) (get_or values j Below) (have.has j l); is = refl }
     full_tree (Fork below above) (_, (v, b, tb, ta)) decided = elim (some_or_none (f (slice_index part b.place))) [
-        inl k ↦ absurd (b.undecided (k.0, subst (λ u. AtNode cons (Knows value) tried u k.0) b.is (node.inside (slice_index part b.place) k.0 k.1)))
+      | inl k ↦ absurd (b.undecided (k.0, subst (λ u. AtNode cons (Knows value) tried u k.0) b.is (node.inside (slice_index part b.place) k.0 k.1)))
       | inr none ↦ absurd (decided b.place b.inside none)
-      ]
+    ]
 
     pub record HasFork (v : ℕ) (tree : Tree) : Type 0 where
       pub below : Tree
@@ -72,22 +71,22 @@ module _ (cons : List Constraint) (value : ℕ → Option Order) (part : List �
     fork_tree Clash both k l none earlier = absurd (calm both)
     fork_tree (Full values) (_, have) k l none earlier = some_none (settled (slice_index part k) (get_or values k Below) (have.has k l)) none
     fork_tree (Fork below above) (_, (v, b, tb, ta)) k l none earlier = elim (cases_order b.place k) [
-        inl e ↦ (let same : v ≡ slice_index part k = sym b.is ∙ ap (slice_index part) e in
-            record {
-              below = below;
-              above = above;
-              is = refl;
-              tree_below = subst (λ u. IsTreeAt cons (Knows value) part ((u, Below) ∷ tried) below) same tb;
-              tree_above = subst (λ u. IsTreeAt cons (Knows value) part ((u, Above) ∷ tried) above) same ta;
-            })
+      | inl e ↦ (let same : v ≡ slice_index part k = sym b.is ∙ ap (slice_index part) e in
+          record {
+            below = below;
+            above = above;
+            is = refl;
+            tree_below = subst (λ u. IsTreeAt cons (Knows value) part ((u, Below) ∷ tried) below) same tb;
+            tree_above = subst (λ u. IsTreeAt cons (Knows value) part ((u, Above) ∷ tried) above) same ta;
+          })
       | inr o ↦ elim o [
-          inl less ↦ elim (some_or_none (f (slice_index part b.place))) [
-              inl s ↦ absurd (b.undecided (s.0, subst (λ u. AtNode cons (Knows value) tried u s.0) b.is (node.inside (slice_index part b.place) s.0 s.1)))
-            | inr n ↦ absurd (earlier b.place less n)
-            ]
-        | inr more ↦ (let d = b.earlier k more in some_none (settled (slice_index part k) d.0 d.1) none)
+        | inl less ↦ elim (some_or_none (f (slice_index part b.place))) [
+          | inl s ↦ absurd (b.undecided (s.0, subst (λ u. AtNode cons (Knows value) tried u s.0) b.is (node.inside (slice_index part b.place) s.0 s.1)))
+          | inr n ↦ absurd (earlier b.place less n)
         ]
+        | inr more ↦ (let d = b.earlier k more in some_none (settled (slice_index part k) d.0 d.1) none)
       ]
+    ]
 
   pub clash_tree : (tree : Tree) → IsTreeAt cons (Knows value) part tried tree → IsClashNode cons (Knows value) tried → tree ≡ Clash
   clash_tree Clash is both = refl

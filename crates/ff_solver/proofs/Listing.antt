@@ -1,19 +1,17 @@
 -- The solutions at the leaves of a decision tree are the list of solutions.
-use Rattle.std.proofs.Common.{◌≡◌, ℕ, zero, suc, ◌+◌, ◌<◌, ◌++◌, ◌⊎◌, inl, inr, Bool, true, false, ◌&&◌, List, [], ◌∷◌, length, filter, filter_map, get_or, slice_index, slice_get, refl, sym, ap, ◌∙◌, subst, arith, Option, Some, None, Contains}
-use Rattle.std.specs.List.{list_all}
+use Rattle.std.proofs.Common.{◌≡◌, ℕ, zero, suc, ◌<◌, ◌++◌, ◌⊎◌, inl, inr, Bool, true, false, ◌&&◌, List, [], ◌∷◌, length, filter, slice_index, refl, sym, ap, ◌∙◌, subst, arith, Option, Some, Contains}
 use Rattle.std.proofs.lemmas.List.{ext_get_or}
 use Rattle.std.proofs.lemmas.List.Elements.{filter_map-append}
 use Rattle.ff_tables.specs.declared.orders.Order.{Order}
 use Rattle.ff_tables.specs.declared.orders.Order.TheVariants.{Below, Above}
 use Rattle.ff_tables.specs.declared.terms.Constraint.{Constraint}
 use Rattle.ff_tables.specs.Orders.{term_at, is_order, row_at}
-use Rattle.ff_tables.specs.Rows.{arity, all_lists}
+use Rattle.ff_tables.specs.Rows.{all_lists}
 use Rattle.ff_tables.specs.Systems.{AreFit}
-use Rattle.ff_tables.specs.Forces.{Forces, Knows, NoneAgrees}
-use Rattle.ff_propagate.specs.Closure.{InClosure, IsClosed, Clashes}
+use Rattle.ff_tables.specs.Forces.{Knows}
 use Rattle.ff_propagate.specs.Parts.{IsPart}
 use Rattle.ff_propagate.specs.Solutions.{has_row, joint, solutions_of, is_solution}
-use Rattle.ff_propagate.specs.Trees.{Tree, Clash, Full, Fork, With, AtNode, IsTreeAt, IsTree, HasValues, IsBranching, IsClashNode, visits, found, same}
+use Rattle.ff_propagate.specs.Trees.{Tree, Clash, Full, Fork, With, AtNode, IsTreeAt, IsTree, HasValues, IsClashNode, visits, found, same}
 use Rattle.ff_propagate.proofs.Joining.{Stands, AreDistinct, joint_at, joint_either}
 use Rattle.ff_propagate.proofs.Quiet.{IsQuiet, all_from, dead_forces, closure_forced}
 use Rattle.ff_propagate.proofs.Deciding.{row_or_none}
@@ -93,50 +91,52 @@ module _ (vars : ℕ) (cons : List Constraint) (value : ℕ → Option Order) (p
   -- the values of a full leaf are a solution
   full_solves : (tried : List (ℕ × Order)) (values : List Order) → (IsClashNode cons (Knows value) tried → ⊥) → HasValues cons (Knows value) tried part values → is_solution cons value part values ≡ true
   full_solves tried values calm have = all_from (has_row (joint value part values)) cons (λ c con is. elim (row_or_none (joint value part values) con) [
-      inl e ↦ e
+    | inl e ↦ e
     | inr none ↦ absurd (calm (
         let known : (j : ℕ) (t : Order) → j < length con.terms → joint value part values (term_at con.terms j).var ≡ Some t → AtNode cons (Knows value) tried (term_at con.terms j).var t =
-            λ j t l q. at_node (term_at con.terms j).var t q in
+        λ j t l q. at_node (term_at con.terms j).var t q in
         let at : (s : Order) → AtNode cons (Knows value) tried (term_at con.terms 0).var s =
-            λ s. closure_forced cons (With (Knows value) tried) c con (term_at con.terms 0).var s is
-                (forces_more con.kind con.terms (Knows (joint value part values)) (AtNode cons (Knows value) tried) (term_at con.terms 0).var s known (dead_forces vars cons fit c con is (Knows (joint value part values)) none s)) in
+        λ s. closure_forced cons (With (Knows value) tried) c con (term_at con.terms 0).var s is
+        (forces_more con.kind con.terms (Knows (joint value part values)) (AtNode cons (Knows value) tried) (term_at con.terms 0).var s known (dead_forces vars cons fit c con is (Knows (joint value part values)) none s)) in
         record { variable = (term_at con.terms 0).var; below = at Below; above = at Above }))
-    ])
+  ])
     where
       at_node : (v : ℕ) (t : Order) → joint value part values v ≡ Some t → AtNode cons (Knows value) tried v t
       at_node v t q = elim (joint_either value part values v) [
-          inl st ↦ (
+        | inl st ↦ (
             let here : row_at values st.0 ≡ t = some_same (sym (joint_at value part values st.0 distinct st.1 have.as_many) ∙ ap (joint value part values) st.2 ∙ q) in
             subst (λ u. AtNode cons (Knows value) tried u t) st.2 (subst (λ s. AtNode cons (Knows value) tried (slice_index part st.0) s) here (have.has st.0 st.1)))
         | inr e ↦ (λ P closed. closed.base_held v t (inl (sym e ∙ q)))
-        ]
+      ]
 
   full_one : (tried : List (ℕ × Order)) (p : Test) → Selects tried p → (values : List Order) → (IsClashNode cons (Knows value) tried → ⊥) → HasValues cons (Knows value) tried part values
       → filter p (all_lists (length part)) ≡ values ∷ []
   full_one tried p sel values calm have = one_passes (length part) p values have.as_many
       (sel.all values have.as_many (full_solves tried values calm have) (λ v s among.
-          let st = sel.within v s among in
-          let mine : AtNode cons (Knows value) tried (slice_index part st.0) s = subst (λ u. AtNode cons (Knows value) tried u s) (sym st.2) (λ P closed. closed.base_held v s (inr among)) in
-          ap (joint value part values) (sym st.2) ∙ joint_at value part values st.0 distinct st.1 have.as_many
-          ∙ ap (λ t. Some t) (one_value tried calm (slice_index part st.0) (row_at values st.0) s (have.has st.0 st.1) mine)))
+      let st = sel.within v s among in
+      let mine : AtNode cons (Knows value) tried (slice_index part st.0) s = subst (λ u. AtNode cons (Knows value) tried u s) (sym st.2) (λ P closed. closed.base_held v s (inr among)) in
+      ap (joint value part values) (sym st.2) ∙ joint_at value part values st.0 distinct st.1 have.as_many
+      ∙ ap (λ t. Some t) (one_value tried calm (slice_index part st.0) (row_at values st.0) s (have.has st.0 st.1) mine)))
       (λ xs long e. ext_get_or Below xs values (long ∙ sym have.as_many) (λ j l. node_at tried p sel xs long e j (omega (arith, l, long)) (row_at values j) (have.has j (omega (arith, l, long)))))
 
   select_more : (tried : List (ℕ × Order)) (p : Test) → Selects tried p → (k : ℕ) → k < length part → (s : Order) → Selects ((slice_index part k, s) ∷ tried) (and p (has k s))
   select_more tried p sel k l s = record {
-      within = λ v t among. elim (tried_or_now (slice_index part k) s tried v t among) [
-          inl now ↦ (k, l, sym now.0)
-        | inr old ↦ sel.within v t old
-        ];
-      only = λ xs long e.
-          let r = sel.only xs long (front (p xs) (has k s xs) e) in
-          (r.0, λ v t among. elim (tried_or_now (slice_index part k) s tried v t among) [
-              inl now ↦ ap (joint value part xs) now.0 ∙ joint_at value part xs k distinct l long ∙ ap (λ b. Some b) (is_same (row_at xs k) s (back (p xs) (has k s xs) e) ∙ sym now.1)
+    within = λ v t among. elim (tried_or_now (slice_index part k) s tried v t among) [
+      | inl now ↦ (k, l, sym now.0)
+      | inr old ↦ sel.within v t old
+    ];
+    only = λ xs long e.
+        let r = sel.only xs long (front (p xs) (has k s xs) e) in (
+          r.0,
+          λ v t among. elim (tried_or_now (slice_index part k) s tried v t among) [
+            | inl now ↦ ap (joint value part xs) now.0 ∙ joint_at value part xs k distinct l long ∙ ap (λ b. Some b) (is_same (row_at xs k) s (back (p xs) (has k s xs) e) ∙ sym now.1)
             | inr old ↦ r.1 v t old
-            ]);
-      all = λ xs long e tries. both (p xs) (has k s xs)
-          (sel.all xs long e (λ v t among. tries v t (tried_before (slice_index part k) s tried v t among)))
-          (same_is (row_at xs k) s (some_same (sym (joint_at value part xs k distinct l long) ∙ tries (slice_index part k) s (tried_now (slice_index part k) s tried))));
-    }
+          ],
+        );
+    all = λ xs long e tries. both (p xs) (has k s xs)
+        (sel.all xs long e (λ v t among. tries v t (tried_before (slice_index part k) s tried v t among)))
+        (same_is (row_at xs k) s (some_same (sym (joint_at value part xs k distinct l long) ∙ tries (slice_index part k) s (tried_now (slice_index part k) s tried))));
+  }
 
   pub listed : (tree : Tree) (tried : List (ℕ × Order)) (p : Test) → Selects tried p → IsTreeAt cons (Knows value) part tried tree → found (visits tree) ≡ filter p (all_lists (length part))
   listed Clash tried p sel is = sym (clash_none tried p sel is)
@@ -154,7 +154,7 @@ module _ (vars : ℕ) (cons : List Constraint) (value : ℕ → Option Order) (p
   -- the solutions at the leaves of the part's tree, in tree order, are the part's solutions in their order
   pub solutions_found : (tree : Tree) → IsTree cons value part tree → found (visits tree) ≡ solutions_of cons value part
   solutions_found tree is = listed tree [] (is_solution cons value part) (record {
-      within = λ v s among. no_tried v s among;
-      only = λ xs long e. (e, λ v s among. no_tried v s among);
-      all = λ xs long e tries. e;
-    }) is
+    within = λ v s among. no_tried v s among;
+    only = λ xs long e. (e, λ v s among. no_tried v s among);
+    all = λ xs long e tries. e;
+  }) is

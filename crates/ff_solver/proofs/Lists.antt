@@ -1,5 +1,5 @@
 -- Tests on all lists of values, in order.
-use Rattle.std.proofs.Common.{◌≡◌, ℕ, zero, suc, ◌+◌, ◌<◌, ◌++◌, Bool, true, false, ◌&&◌, cond, List, [], ◌∷◌, map, filter, length, get_or, refl, sym, ap, ◌∙◌, subst, arith}
+use Rattle.std.proofs.Common.{◌≡◌, ℕ, zero, suc, ◌<◌, ◌++◌, Bool, true, false, ◌&&◌, cond, List, [], ◌∷◌, map, filter, length, refl, sym, ap, ◌∙◌, arith}
 use Rattle.std.proofs.lemmas.List.{append-nil, map-append}
 use Rattle.std.proofs.lemmas.List.Elements.{filter-append, filter_agree}
 use Rattle.ff_tables.specs.declared.orders.Order.{Order}
@@ -68,7 +68,7 @@ one_passes (suc n) p [] l e only = absurd (omega (arith, l))
 one_passes (suc n) p (Below ∷ ys) l e only =
     filter_first p n
     ∙ ap (λ ls. map (λ xs. Below ∷ xs) ls ++ map (λ xs. Above ∷ xs) (filter (onto p Above) (all_lists n)))
-        (one_passes n (onto p Below) ys (suc_same _ _ l) e (λ xs m h. rest_same Below Below xs ys (only (Below ∷ xs) (ap suc m) h)))
+    (one_passes n (onto p Below) ys (suc_same _ _ l) e (λ xs m h. rest_same Below Below xs ys (only (Below ∷ xs) (ap suc m) h)))
     ∙ ap (λ ls. (Below ∷ ys) ∷ map (λ xs. Above ∷ xs) ls) (none_pass n (onto p Above) (λ xs m h. differ ys xs (sym (only (Above ∷ xs) (ap suc m) h))))
 one_passes (suc n) p (Above ∷ ys) l e only =
     filter_first p n
@@ -107,6 +107,7 @@ splits (suc n) p zero l one =
         ∙ ap (λ ls. map (λ xs. Below ∷ xs) (filter (onto (and p (has 0 Below)) Below) (all_lists n)) ++ map (λ xs. Above ∷ xs) ls) (none_pass n (onto (and p (has 0 Below)) Above) (λ xs m e. and_false (p (Above ∷ xs)) e))
         ∙ append-nil (map (λ xs. Below ∷ xs) (filter (onto (and p (has 0 Below)) Below) (all_lists n)))
         ∙ ap (map (λ xs. Below ∷ xs)) (sym (filter_agree (onto p Below) (onto (and p (has 0 Below)) Below) (λ xs. and_true (p (Below ∷ xs))) (all_lists n)))
+
     above : filter (and p (has 0 Above)) (all_lists (suc n)) ≡ map (λ xs. Above ∷ xs) (filter (onto p Above) (all_lists n))
     above =
         filter_first (and p (has 0 Above)) n
@@ -119,10 +120,12 @@ splits (suc n) p (suc k) l one = sort (one 0 (omega arith)).0 (one 0 (omega arit
         filter_first q n
         ∙ ap (λ ls. map (λ xs. Below ∷ xs) (filter (onto q Below) (all_lists n)) ++ map (λ xs. Above ∷ xs) ls) (none_pass n (onto q Above) never)
         ∙ append-nil (map (λ xs. Below ∷ xs) (filter (onto q Below) (all_lists n)))
+
     with_above : (q : Test) → AllFail n (onto q Below) → filter q (all_lists (suc n)) ≡ map (λ xs. Above ∷ xs) (filter (onto q Above) (all_lists n))
     with_above q never =
         filter_first q n
         ∙ ap (λ ls. map (λ xs. Below ∷ xs) ls ++ map (λ xs. Above ∷ xs) (filter (onto q Above) (all_lists n))) (none_pass n (onto q Below) never)
+
     joined : (s : Order) → ((q : Test) → ((xs : List Order) → length xs ≡ suc n → q xs ≡ true → p xs ≡ true) → filter q (all_lists (suc n)) ≡ map (λ xs. s ∷ xs) (filter (onto q s) (all_lists n)))
         → filter (onto p s) (all_lists n) ≡ filter (and (onto p s) (has k Below)) (all_lists n) ++ filter (and (onto p s) (has k Above)) (all_lists n)
         → filter p (all_lists (suc n)) ≡ filter (and p (has (suc k) Below)) (all_lists (suc n)) ++ filter (and p (has (suc k) Above)) (all_lists (suc n))
@@ -130,9 +133,11 @@ splits (suc n) p (suc k) l one = sort (one 0 (omega arith)).0 (one 0 (omega arit
         by p (λ xs m e. e) ∙ ap (map (λ xs. s ∷ xs)) same
         ∙ map-append (λ xs. s ∷ xs) (filter (and (onto p s) (has k Below)) (all_lists n)) (filter (and (onto p s) (has k Above)) (all_lists n))
         ∙ sym (ap (λ ls. ls ++ filter (and p (has (suc k) Above)) (all_lists (suc n))) (by (and p (has (suc k) Below)) (λ xs m e. left (p xs) _ e))
-            ∙ ap (λ ls. map (λ xs. s ∷ xs) (filter (and (onto p s) (has k Below)) (all_lists n)) ++ ls) (by (and p (has (suc k) Above)) (λ xs m e. left (p xs) _ e)))
+        ∙ ap (λ ls. map (λ xs. s ∷ xs) (filter (and (onto p s) (has k Below)) (all_lists n)) ++ ls) (by (and p (has (suc k) Above)) (λ xs m e. left (p xs) _ e)))
+
     other : Below ≡ Above → ⊥
     other e = cc
+
     sort : (s : Order) → ((xs : List Order) → length xs ≡ suc n → p xs ≡ true → row_at xs 0 ≡ s)
         → filter (onto p Below) (all_lists n) ≡ filter (and (onto p Below) (has k Below)) (all_lists n) ++ filter (and (onto p Below) (has k Above)) (all_lists n)
         → filter (onto p Above) (all_lists n) ≡ filter (and (onto p Above) (has k Below)) (all_lists n) ++ filter (and (onto p Above) (has k Above)) (all_lists n)

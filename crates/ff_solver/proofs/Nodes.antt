@@ -1,20 +1,17 @@
 -- What the closure at a node tells of the lists of values that agree with what was tried.
-use Rattle.std.proofs.Common.{◌≡◌, ℕ, zero, suc, ◌+◌, ◌<◌, ◌⊎◌, inl, inr, Bool, true, false, List, [], ◌∷◌, length, get_or, slice_index, slice_get, refl, sym, ap, ◌∙◌, subst, arith, Option, Some, None, Contains}
-use Rattle.std.specs.List.{list_all}
+use Rattle.std.proofs.Common.{◌≡◌, ℕ, ◌<◌, ◌⊎◌, inl, inr, Bool, true, false, List, length, slice_index, slice_get, refl, sym, ap, ◌∙◌, subst, Option, Some, None, Contains}
 use Rattle.ff_tables.specs.declared.orders.Order.{Order}
 use Rattle.ff_tables.specs.declared.orders.Order.TheVariants.{Below, Above}
 use Rattle.ff_tables.specs.declared.terms.Constraint.{Constraint}
 use Rattle.ff_tables.specs.Orders.{term_at, turn, is_order, row_at}
-use Rattle.ff_tables.specs.Rows.{arity}
 use Rattle.ff_tables.specs.Systems.{AreFit}
-use Rattle.ff_tables.specs.Forces.{Forces, Knows, NoneAgrees, SomeAgrees}
-use Rattle.ff_propagate.specs.Closure.{InClosure, IsClosed, Clashes}
+use Rattle.ff_tables.specs.Forces.{Forces, Knows}
 use Rattle.ff_propagate.specs.Parts.{IsPart}
 use Rattle.ff_tables.proofs.Agreeing.{turn_turn}
 use Rattle.ff_propagate.specs.Solutions.{has_row, joint, is_solution}
 use Rattle.ff_propagate.specs.Trees.{With, AtNode}
 use Rattle.ff_propagate.proofs.Deciding.{has_row-decides}
-use Rattle.ff_propagate.proofs.Joining.{Stands, AreDistinct, joint_either, joint_none, joint_keeps}
+use Rattle.ff_propagate.proofs.Joining.{Stands, joint_either, joint_none, joint_keeps}
 use Rattle.ff_propagate.proofs.Quiet.{IsQuiet, in_part, all_at}
 
 -- of all that was tried the list has the value
@@ -57,18 +54,20 @@ module _ (vars : ℕ) (cons : List Constraint) (value : ℕ → Option Order) (p
   pub has_node : (xs : List Order) → length xs ≡ length part → is_solution cons value part xs ≡ true → (tried : List (ℕ × Order)) → HasTried (joint value part xs) tried
       → (v : ℕ) (s : Order) → AtNode cons (Knows value) tried v s → joint value part xs v ≡ Some s
   has_node xs long meets tried has v s inside = test_some (f v) s (inside (λ u t. test (f u) t) (record {
-      base_held = λ u t b. some_test (f u) t (based u t b);
-      forced_held = λ c con u t is force. some_test (f u) t (forced c con u t is force);
-    }))
+    base_held = λ u t b. some_test (f u) t (based u t b);
+    forced_held = λ c con u t is force. some_test (f u) t (forced c con u t is force);
+  }))
     where
       f : ℕ → Option Order
       f = joint value part xs
+
       based : (u : ℕ) (t : Order) → With (Knows value) tried u t → f u ≡ Some t
       based u t (inl known) = joint_keeps value part xs u t part_open known
       based u t (inr among) = has u t among
+
       forced : (c : ℕ) (con : Constraint) (u : ℕ) (t : Order) → slice_get cons c ≡ Some con → Forces con.kind con.terms (λ y b. test (f y) b ≡ true) u t → f u ≡ Some t
       forced c con u t is (p, l, e, only) = elim (some_or_none (f u)) [
-          inl k ↦ (
+        | inl k ↦ (
             let r = (has_row-decides f con).0 (all_at (has_row f) cons c con meets is) in
             let fl = (term_at con.terms p).flipped in
             let a : row_at r.1 p ≡ turn fl k.0 = r.3 p (turn fl k.0) l (ap f e ∙ k.1 ∙ ap (λ b. Some b) (sym (turn_turn fl k.0))) in
@@ -78,14 +77,19 @@ module _ (vars : ℕ) (cons : List Constraint) (value : ℕ → Option Order) (p
             let away : Stands part u → ⊥ = joint_none value part xs u long none in
             -- no term of the constraint is of the part, so what is known of it the board knows
             let plain : (j : ℕ) (b : Order) → j < length con.terms → f (term_at con.terms j).var ≡ Some b → value (term_at con.terms j).var ≡ Some b =
-                λ j b m q. elim (joint_either value part xs (term_at con.terms j).var) [
-                    inl st ↦ absurd (away (subst (λ y. Stands part y) e (in_part vars cons value part fit is_part c con is j p m l st
-                        (elim (some_or_none (value (term_at con.terms p).var)) [
-                            inl k ↦ clash none (joint_keeps value part xs u k.0 part_open (ap value (sym e) ∙ k.1))
-                          | inr n ↦ n
-                          ]))))
-                  | inr same ↦ sym same ∙ q
-                  ] in
-            clash none (joint_keeps value part xs u t part_open (quiet c con u t is (p, l, e, λ k row at a. only k row at (λ j b m q. a j b m
-                (plain j (turn (term_at con.terms j).flipped b) m (test_some (f (term_at con.terms j).var) (turn (term_at con.terms j).flipped b) q)))))))
-        ]
+            λ j b m q. elim (joint_either value part xs (term_at con.terms j).var) [
+              | inl st ↦ absurd (away (subst (λ y. Stands part y) e (in_part vars cons value part fit is_part c con is j p m l st
+                  (elim (some_or_none (value (term_at con.terms p).var)) [
+                    | inl k ↦ clash none (joint_keeps value part xs u k.0 part_open (ap value (sym e) ∙ k.1))
+                    | inr n ↦ n
+                  ]))))
+              | inr same ↦ sym same ∙ q
+            ] in
+            clash none (joint_keeps value part xs u t part_open (quiet c con u t is (
+              p,
+              l,
+              e,
+              λ k row at a. only k row at (λ j b m q. a j b m
+                  (plain j (turn (term_at con.terms j).flipped b) m (test_some (f (term_at con.terms j).var) (turn (term_at con.terms j).flipped b) q))),
+            ))))
+      ]

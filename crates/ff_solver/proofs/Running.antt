@@ -1,5 +1,5 @@
 -- A call visits nodes one after the other.
-use Rattle.std.proofs.Common.{◌≡◌, ℕ, zero, suc, ◌+◌, ◌*◌, ◌-◌, ◌^◌, ◌<◌, ◌≤◌, List, [], ◌∷◌, ◌++◌, length, get_or, slice_index, refl, sym, ap, ◌∙◌, subst, arith, add-one, replicate, Option, Some, None}
+use Rattle.std.proofs.Common.{◌≡◌, ℕ, ◌+◌, ◌*◌, ◌-◌, ◌^◌, ◌<◌, List, [], ◌∷◌, ◌++◌, length, refl, sym, ap, ◌∙◌, subst, arith, add-one, Option, Some, None}
 use Rattle.std.proofs.Math.Nat.{mul-suc, mul-add}
 use Rattle.std.proofs.lemmas.List.{append_assoc, replicate_more, ext_get_or}
 use Rattle.ff_tables.specs.declared.orders.Order.{Order}
@@ -10,10 +10,9 @@ use Rattle.ff_propagate.specs.Trees.{Tree, Clash, Full, Fork, visits}
 use Rattle.ff_solver.specs.declared.trail.Trail.{Trail}
 use Rattle.ff_solver.specs.declared.path.Path.{Path}
 use Rattle.ff_solver.specs.declared.state.Search.{Search}
-use Rattle.ff_solver.specs.declared.state.Advance.TheVariants.{Found, Finished, Spent}
-use Rattle.ff_solver.specs.Trails.{known}
+use Rattle.ff_solver.specs.declared.state.Advance.TheVariants.{Found, Spent}
 use Rattle.ff_solver.specs.Paths.{AreLeft, AreNext, ArePending, AreValues, IsPassed, IsSolved, Nodes}
-use Rattle.ff_solver.specs.Searches.{IsSearch, IsSameSearch, IsGoneOn, IsRunning, IsRun, idle}
+use Rattle.ff_solver.specs.Searches.{IsSearch, IsSameSearch, IsRunning, IsRun, idle}
 
 pub visits_some : (tree : Tree) (later : Nodes) → visits tree ++ later ≡ [] → ⊥
 visits_some Clash later e = cc
@@ -81,22 +80,22 @@ pub run_on : (vars : ℕ) (cons : List Constraint) (turns : ℕ) (old now mid : 
     → ((value : ℕ → Option Order) (nodes : Nodes) → AreNext cons value now.part.vars now.path nodes → IsPassed cons value now.part.vars mid.path nodes)
     → IsRunning vars cons turns old mid (left - length old.part.vars)
 run_on vars cons turns old now mid left head r at enough search same stepped passed = record {
-    search = search;
-    same = record { facts = same.facts ∙ r.same.facts; part = same.part ∙ r.same.part };
-    steps = r.steps + 1;
-    counted = omega (arith, stepped, r.counted);
-    paid = omega (arith, r.paid, enough, times_more (length old.part.vars) r.steps);
-    gone = λ value nodes are.
-        let g = r.gone value nodes are in
-        let part : now.part.vars ≡ old.part.vars = ap (λ (p : Part). p.vars) r.same.part in
-        let next = next_of cons value old.part.vars now.path now.path.next head g.later at g.left in
-        let s = subst (λ vs. AreNext cons value vs now.path g.later → IsPassed cons value vs mid.path g.later) part (passed value g.later) next in
-        record {
-          later = s.later;
-          left = s.left;
-          are = g.are ∙ ap (λ ns. idle r.steps ++ ns) s.are ∙ sym (append_assoc (idle r.steps) (None ∷ []) s.later) ∙ ap (λ ns. ns ++ s.later) (replicate_more r.steps None);
-        };
-  }
+  search = search;
+  same = record { facts = same.facts ∙ r.same.facts; part = same.part ∙ r.same.part };
+  steps = r.steps + 1;
+  counted = omega (arith, stepped, r.counted);
+  paid = omega (arith, r.paid, enough, times_more (length old.part.vars) r.steps);
+  gone = λ value nodes are.
+      let g = r.gone value nodes are in
+      let part : now.part.vars ≡ old.part.vars = ap (λ (p : Part). p.vars) r.same.part in
+      let next = next_of cons value old.part.vars now.path now.path.next head g.later at g.left in
+      let s = subst (λ vs. AreNext cons value vs now.path g.later → IsPassed cons value vs mid.path g.later) part (passed value g.later) next in
+      record {
+        later = s.later;
+        left = s.left;
+        are = g.are ∙ ap (λ ns. idle r.steps ++ ns) s.are ∙ sym (append_assoc (idle r.steps) (None ∷ []) s.later) ∙ ap (λ ns. ns ++ s.later) (replicate_more r.steps None);
+      };
+}
 
 -- the turns of one node more
 pub run_room : (vars : ℕ) (cons : List Constraint) (turns : ℕ) (old now : Search) (left : ℕ) → IsRunning vars cons turns old now left → (left < length old.part.vars → ⊥) → length old.part.vars * old.visited + turns < 2 ^ 64

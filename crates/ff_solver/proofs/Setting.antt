@@ -1,20 +1,18 @@
 -- A variable gets a value.
-use Rattle.std.proofs.Common.{◌≡◌, ℕ, zero, suc, ◌+◌, ◌<◌, ◌≤◌, ◌⊎◌, ◌==◌, ◌^◌, inl, inr, Bool, true, false, List, [], ◌∷◌, ◌++◌, length, drop, take, get_or, set, slice_index, slice_get, refl, sym, ap, ◌∙◌, subst, arith, add-one, Option, Some, None, if◌then◌else◌}
-use Rattle.std.specs.Vec.{vec_len, vec_capacity}
+use Rattle.std.proofs.Common.{◌≡◌, ℕ, zero, suc, ◌+◌, ◌<◌, ◌≤◌, ◌⊎◌, ◌==◌, inl, inr, Bool, true, List, [], ◌∷◌, ◌++◌, length, drop, get_or, set, slice_index, slice_get, refl, sym, ap, ◌∙◌, subst, arith, Option, Some, None, if◌then◌else◌}
+use Rattle.std.specs.Vec.{vec_capacity}
 use Rattle.std.proofs.lemmas.Bool.{cases_eq, eq-eqb, ne_eqb}
 use Rattle.std.proofs.lemmas.List.{get_or-set_same, get_or-set_other, length-set, length-append, drop-append-le, get_or_append_left, get_or_push}
 use Rattle.ff_tables.specs.declared.orders.Order.{Order}
 use Rattle.ff_tables.specs.declared.orders.Order.TheVariants.{Below, Above}
-use Rattle.ff_tables.specs.declared.terms.Kind.{Kind}
-use Rattle.ff_tables.specs.declared.terms.Term.{Term}
 use Rattle.ff_tables.specs.declared.terms.Constraint.{Constraint}
 use Rattle.ff_tables.specs.declared.known.Forced.TheVariants.{Nothing}
-use Rattle.ff_tables.specs.Orders.{term_at, turn, row_at}
-use Rattle.ff_tables.specs.Systems.{AreFit, IsFit}
-use Rattle.ff_tables.specs.Forces.{Forces, Knows, ForcedIs, Settled, IsFirst}
+use Rattle.ff_tables.specs.Orders.{term_at, turn}
+use Rattle.ff_tables.specs.Systems.{AreFit}
+use Rattle.ff_tables.specs.Forces.{Knows, ForcedIs, Settled, IsFirst}
 use Rattle.ff_tables.proofs.Agreeing.{forces_more, turn_turn}
 use Rattle.ff_solver.specs.declared.trail.Trail.{Trail}
-use Rattle.ff_solver.specs.Trails.{value_in, known, set_count, without, cut, IsTrail, IsKept, Covers, Grows, IsSet, Waits, IsSilent, Rests}
+use Rattle.ff_solver.specs.Trails.{value_in, known, set_count, without, IsTrail, IsKept, Covers, Grows, IsSet, Waits, IsSilent}
 
 set_count_le : (xs : List (Option Order)) → set_count xs ≤ length xs
 set_count_le [] = omega arith
@@ -45,9 +43,9 @@ set_count_unset (Some t ∷ xs) (suc v) = let r = set_count_unset xs v in omega 
 -- a variable at the end of the list that has no value
 pub without_push : (f g : ℕ → Option Order) (vs : List ℕ) (v : ℕ) → f v ≡ None → ((w : ℕ) → (w ≡ v → ⊥) → g w ≡ f w) → (w : ℕ) → without g (vs ++ v ∷ []) w ≡ without f vs w
 without_push f g [] v none same w = elim (cases_eq v w) [
-    inl e ↦ ap (λ b. if b then None else g w) (eq-eqb v w e) ∙ sym (ap f (sym e) ∙ none)
+  | inl e ↦ ap (λ b. if b then None else g w) (eq-eqb v w e) ∙ sym (ap f (sym e) ∙ none)
   | inr n ↦ ap (λ b. if b then None else g w) (ne_eqb v w n) ∙ same w (λ e. n (sym e))
-  ]
+]
 without_push f g (u ∷ vs) v none same w = ap (λ r. if u == w then None else r) (without_push f g vs v none same w)
 
 pub known_set : (old : Trail) (v : ℕ) (s : Order) (new : Trail) → IsSet old v s new → v < length old.values.list.items → known new v ≡ Some s
@@ -69,10 +67,10 @@ trail_set vars old v s new is set l none =
       room = omega (arith, is.room, set.room);
       count = omega (arith, long, is.count, ap set_count set.values ∙ set_count_set old.values.list.items v s (omega (arith, l, is.wide)) none);
       trailed = λ i m. elim (cases_eq i (length old.vars.items)) [
-          inl e ↦ subst (λ n. n < vars) (sym (ap (λ xs. get_or xs i 0) set.vars ∙ get_or_push old.vars.items v 0 i (sym e))) l
+        | inl e ↦ subst (λ n. n < vars) (sym (ap (λ xs. get_or xs i 0) set.vars ∙ get_or_push old.vars.items v 0 i (sym e))) l
         | inr n ↦ (let k : i < length old.vars.items = omega (arith, m, long, n) in
             subst (λ n. n < vars) (sym (ap (λ xs. get_or xs i 0) set.vars ∙ get_or_append_left old.vars.items (v ∷ []) 0 i k)) (is.trailed i k))
-        ];
+      ];
     }
 
 some_none : {A : Type 0} {o : Option Order} {s : Order} → o ≡ Some s → o ≡ None → A
@@ -90,19 +88,19 @@ grows_set vars cons old v s new is set l none derives =
       count = omega (arith, long);
       front = λ i m. ap (λ xs. get_or xs i 0) set.vars ∙ get_or_append_left old.vars.items (v ∷ []) 0 i m;
       changed = λ w. elim (cases_eq w v) [
-          inl e ↦ inr (length old.vars.items, omega arith, omega (arith, long), ap (λ xs. get_or xs (length old.vars.items) 0) set.vars ∙ get_or_push old.vars.items v 0 (length old.vars.items) refl ∙ sym e)
+        | inl e ↦ inr (length old.vars.items, omega arith, omega (arith, long), ap (λ xs. get_or xs (length old.vars.items) 0) set.vars ∙ get_or_push old.vars.items v 0 (length old.vars.items) refl ∙ sym e)
         | inr n ↦ inl (known_other old v s new set w n)
-        ];
+      ];
       kept = λ w t q. elim (cases_eq w v) [
-          inl e ↦ some_none (ap (known old) (sym e) ∙ q) none
+        | inl e ↦ some_none (ap (known old) (sym e) ∙ q) none
         | inr n ↦ known_other old v s new set w n ∙ q
-        ];
+      ];
       same = λ m k w. ap (λ vs. without (known new) vs w) (ap (drop m) set.vars ∙ drop-append-le m old.vars.items (v ∷ []) k)
           ∙ without_push (known old) (known new) (drop m old.vars.items) v none (known_other old v s new set) w;
       derived = λ P kept covers w t q. elim (cases_eq w v) [
-          inl e ↦ subst (λ u. P u t ≡ true) (sym e) (subst (λ b. P v b ≡ true) (some_same (sym here ∙ ap (known new) (sym e) ∙ q)) (derives P kept covers))
+        | inl e ↦ subst (λ u. P u t ≡ true) (sym e) (subst (λ b. P v b ≡ true) (some_same (sym here ∙ ap (known new) (sym e) ∙ q)) (derives P kept covers))
         | inr n ↦ covers w t (sym (known_other old v s new set w n) ∙ q)
-        ];
+      ];
     }
 
 pub grows_refl : (cons : List Constraint) (t : Trail) → Grows cons t t
@@ -110,13 +108,13 @@ grows_refl cons t = record { count = omega arith; front = λ i l. refl; changed 
 
 pub grows_trans : (cons : List Constraint) (a b d : Trail) → Grows cons a b → Grows cons b d → Grows cons a d
 grows_trans cons a b d x y = record {
-    count = omega (arith, x.count, y.count);
-    front = λ i l. y.front i (omega (arith, l, x.count)) ∙ x.front i l;
-    changed = λ v. join v (x.changed v) (y.changed v);
-    kept = λ v s e. y.kept v s (x.kept v s e);
-    same = λ m l v. y.same m (omega (arith, l, x.count)) v ∙ x.same m l v;
-    derived = λ P kept covers. y.derived P kept (x.derived P kept covers);
-  }
+  count = omega (arith, x.count, y.count);
+  front = λ i l. y.front i (omega (arith, l, x.count)) ∙ x.front i l;
+  changed = λ v. join v (x.changed v) (y.changed v);
+  kept = λ v s e. y.kept v s (x.kept v s e);
+  same = λ m l v. y.same m (omega (arith, l, x.count)) v ∙ x.same m l v;
+  derived = λ P kept covers. y.derived P kept (x.derived P kept covers);
+}
   where
     join : (v : ℕ) → (known b v ≡ known a v) ⊎ ((i : ℕ) × (length a.vars.items ≤ i) × (i < length b.vars.items) × (slice_index b.vars.items i ≡ v))
         → (known d v ≡ known b v) ⊎ ((i : ℕ) × (length b.vars.items ≤ i) × (i < length d.vars.items) × (slice_index d.vars.items i ≡ v))
@@ -157,8 +155,14 @@ first_step vars cons old new is fit c con at v s first set =
       trail = trail_set vars old v s new is set inside first.unknown;
       grows = grows_set vars cons old v s new is set inside first.unknown (λ P kept covers. kept c con at v s
           (forces_more con.kind con.terms (Knows (known old)) (λ u t. P u t ≡ true) v s (λ j t l q. covers (term_at con.terms j).var t q) (first.at, first.within, first.var, first.only)));
-      waits = (length old.vars.items, first.at, omega arith, omega (arith, long), first.within,
-          ap (λ xs. get_or xs (length old.vars.items) 0) set.vars ∙ get_or_push old.vars.items v 0 (length old.vars.items) refl ∙ sym first.var);
+      waits = (
+        length old.vars.items,
+        first.at,
+        omega arith,
+        omega (arith, long),
+        first.within,
+        ap (λ xs. get_or xs (length old.vars.items) 0) set.vars ∙ get_or_push old.vars.items v 0 (length old.vars.items) refl ∙ sym first.var,
+      );
     }
 
 pub first_room : (vars : ℕ) (cons : List Constraint) (old : Trail) → IsTrail vars old → AreFit vars cons → (c : ℕ) (con : Constraint) → slice_get cons c ≡ Some con

@@ -1,8 +1,7 @@
 -- The last value is taken back.
-use Rattle.std.proofs.Common.{◌≡◌, ℕ, zero, suc, ◌+◌, ◌<◌, ◌≤◌, List, [], ◌∷◌, ◌++◌, length, drop, take, get_or, set, slice_index, refl, sym, ap, ◌∙◌, subst, arith, Option, Some, None}
-use Rattle.std.specs.Vec.{vec_len, vec_capacity}
+use Rattle.std.proofs.Common.{◌≡◌, ℕ, suc, ◌+◌, ◌<◌, ◌≤◌, List, [], ◌∷◌, ◌++◌, length, drop, take, get_or, set, refl, sym, ap, ◌∙◌, subst, arith, None}
+use Rattle.std.specs.Vec.{vec_capacity}
 use Rattle.std.proofs.lemmas.List.{get_or-set_same, get_or-set_other, length-set, length-append, drop-append-le, get_or_append_left, get_or_push, take-append-le, take_all}
-use Rattle.ff_tables.specs.declared.orders.Order.{Order}
 use Rattle.ff_solver.specs.declared.trail.Trail.{Trail}
 use Rattle.ff_solver.specs.Trails.{value_in, known, set_count, without, cut, IsTrail}
 use Rattle.ff_solver.proofs.Setting.{without_push, set_count_unset}
@@ -42,9 +41,9 @@ taken_back vars mark first old v new u b more =
       front = sym (ap (take mark) b.vars ∙ take-append-le mark new.vars.items (v ∷ []) enough) ∙ u.front;
       same = λ m l w.
           sym (ap (λ vs. without (known old) vs w) (ap (drop m) b.vars ∙ drop-append-le m new.vars.items (v ∷ []) (omega (arith, l, enough)))
-              ∙ without_push (known new) (known old) (drop m new.vars.items) v
-                  (ap (λ xs. value_in xs v) b.values ∙ get_or-set_same old.values.list.items v None None (omega (arith, within, u.trail.wide)))
-                  (λ x n. sym (ap (λ xs. value_in xs x) b.values ∙ get_or-set_other old.values.list.items v x None None n)) w)
+          ∙ without_push (known new) (known old) (drop m new.vars.items) v
+          (ap (λ xs. value_in xs v) b.values ∙ get_or-set_same old.values.list.items v None None (omega (arith, within, u.trail.wide)))
+          (λ x n. sym (ap (λ xs. value_in xs x) b.values ∙ get_or-set_other old.values.list.items v x None None n)) w)
           ∙ u.same m l w;
     }
 

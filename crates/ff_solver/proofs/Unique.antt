@@ -1,5 +1,5 @@
 -- A part has one decision tree.
-use Rattle.std.proofs.Common.{◌≡◌, ℕ, zero, suc, ◌+◌, ◌<◌, ◌⊎◌, inl, inr, List, [], ◌∷◌, length, get_or, slice_index, refl, sym, ap, ◌∙◌, subst, arith, Option, Some, None}
+use Rattle.std.proofs.Common.{◌≡◌, ℕ, ◌<◌, inl, inr, List, ◌∷◌, length, get_or, slice_index, refl, sym, ap, ◌∙◌, subst, arith}
 use Rattle.std.proofs.lemmas.Bool.{cases_order}
 use Rattle.std.proofs.lemmas.List.{ext_get_or}
 use Rattle.ff_tables.specs.declared.orders.Order.{Order}
@@ -23,12 +23,12 @@ no_branch cons base part tried values v have b = absurd (b.undecided (get_or val
 
 same_branch : (cons : List Constraint) (base : ℕ → Order → Type 0) (part : List ℕ) (tried : List (ℕ × Order)) (v w : ℕ) → IsBranching cons base tried part v → IsBranching cons base tried part w → v ≡ w
 same_branch cons base part tried v w a b = elim (cases_order a.place b.place) [
-    inl e ↦ sym a.is ∙ ap (slice_index part) e ∙ b.is
+  | inl e ↦ sym a.is ∙ ap (slice_index part) e ∙ b.is
   | inr o ↦ elim o [
-      inl less ↦ (let d = b.earlier a.place less in absurd (a.undecided (d.0, subst (λ u. AtNode cons base tried u d.0) a.is d.1)))
+    | inl less ↦ (let d = b.earlier a.place less in absurd (a.undecided (d.0, subst (λ u. AtNode cons base tried u d.0) a.is d.1)))
     | inr more ↦ (let d = a.earlier b.place more in absurd (b.undecided (d.0, subst (λ u. AtNode cons base tried u d.0) b.is d.1)))
-    ]
   ]
+]
 
 pub same_tree : (cons : List Constraint) (base : ℕ → Order → Type 0) (part : List ℕ) (tried : List (ℕ × Order)) (a b : Tree) → IsTreeAt cons base part tried a → IsTreeAt cons base part tried b → a ≡ b
 same_tree cons base part tried Clash Clash x y = refl

@@ -1,5 +1,5 @@
 -- What a search tells of its decision tree.
-use Rattle.std.specs.Prelude.{◌≡◌, ℕ, ◌+◌, ◌*◌, ◌<◌, ◌≤◌, ◌++◌, List, [], ◌∷◌, length, drop, take, replicate, slice_index, Option, Some, None}
+use Rattle.std.specs.Prelude.{◌≡◌, ℕ, ◌+◌, ◌*◌, ◌<◌, ◌≤◌, ◌++◌, List, [], ◌∷◌, length, drop, take, replicate, Option, Some, None}
 use Rattle.ff_tables.specs.declared.orders.Order.{Order}
 use Rattle.ff_tables.specs.declared.terms.Constraint.{Constraint}
 use Rattle.ff_propagate.specs.declared.facts.Fact.{Fact}
@@ -10,7 +10,7 @@ use Rattle.ff_propagate.specs.Chained.{IsChained}
 use Rattle.ff_solver.specs.declared.state.Search.{Search}
 use Rattle.ff_solver.specs.declared.state.Advance.{Advance}
 use Rattle.ff_solver.specs.declared.state.Advance.TheVariants.{Found, Finished, Spent}
-use Rattle.ff_solver.specs.Paths.{IsPath, IsReady, AreLeft, AreNext, ArePending, AreWithin, AreDecided, Nodes}
+use Rattle.ff_solver.specs.Paths.{IsPath, IsReady, AreLeft, AreWithin, AreDecided, Nodes}
 
 -- nodes that are no solutions
 abbrev pub idle : ℕ → Nodes

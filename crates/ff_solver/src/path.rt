@@ -27,10 +27,8 @@ impl Path {
         requires path { IsPath system.now.vars system.now.constraints self.old }
         ensures path { IsPath system.now.vars system.now.constraints self.new }
         ensures ready { IsReady system.now.constraints self.new.trail self.new.next }
-        ensures left {
-            (value : ℕ → Option OrderSpec) (part : List ℕ) (nodes : Nodes) → ArePending system.now.constraints value part self.old nodes
-                → AreLeft system.now.constraints value part self.new self.new.next nodes
-        }
+        ensures left { (value : ℕ → Option OrderSpec) (part : List ℕ) (nodes : Nodes) → ArePending system.now.constraints value part self.old nodes
+            → AreLeft system.now.constraints value part self.new self.new.next nodes }
     {
         match self.branches.pop() {
             None => self.next = None,
@@ -51,14 +49,12 @@ impl Path {
         requires silent { AreSilent system.now.constraints (known self.old.trail) }
         ensures path { IsPath system.now.vars system.now.constraints self.new }
         ensures ready { IsReady system.now.constraints self.new.trail self.new.next }
-        ensures left {
-            (value : ℕ → Option OrderSpec) (part : List ℕ) (tried : List (ℕ × OrderSpec)) (below above : Tree) (nodes : Nodes)
-                → IsAtNode system.now.constraints value tried (known self.old.trail)
-                → IsTreeAt system.now.constraints (Knows value) part ((var, Below) ∷ tried) below
-                → IsTreeAt system.now.constraints (Knows value) part ((var, Above) ∷ tried) above
-                → ArePending system.now.constraints value part self.old nodes
-                → AreLeft system.now.constraints value part self.new self.new.next (visits below ++ (visits above ++ nodes))
-        }
+        ensures left { (value : ℕ → Option OrderSpec) (part : List ℕ) (tried : List (ℕ × OrderSpec)) (below above : Tree) (nodes : Nodes)
+            → IsAtNode system.now.constraints value tried (known self.old.trail)
+            → IsTreeAt system.now.constraints (Knows value) part ((var, Below) ∷ tried) below
+            → IsTreeAt system.now.constraints (Knows value) part ((var, Above) ∷ tried) above
+            → ArePending system.now.constraints value part self.old nodes
+            → AreLeft system.now.constraints value part self.new self.new.next (visits below ++ (visits above ++ nodes)) }
     {
         let mark = self.trail.vars.len() as u32;
         self.branches.push_reserved(mark);

@@ -46,17 +46,14 @@ impl Search {
         ensures visited { self.new.visited ≡ self.old.visited + 1 }
         ensures search { result ≡ false → IsSearch system.now.vars system.now.constraints self.new }
         ensures solution { IsTrue result → IsAtSolution system.now.vars system.now.constraints self.new }
-        ensures passed {
-            result ≡ false → (value : ℕ → Option OrderSpec) (nodes : Nodes) → AreNext system.now.constraints value self.old.part.vars self.old.path nodes
-                → IsPassed system.now.constraints value self.old.part.vars self.new.path nodes
-        }
-        ensures solved {
-            IsTrue result → (value : ℕ → Option OrderSpec) (nodes : Nodes) → AreNext system.now.constraints value self.old.part.vars self.old.path nodes
-                → IsSolved system.now.constraints value self.old.part.vars self.new.path nodes
-        }
+        ensures passed { result ≡ false → (value : ℕ → Option OrderSpec) (nodes : Nodes) → AreNext system.now.constraints value self.old.part.vars self.old.path nodes
+            → IsPassed system.now.constraints value self.old.part.vars self.new.path nodes }
+        ensures solved { IsTrue result → (value : ℕ → Option OrderSpec) (nodes : Nodes) → AreNext system.now.constraints value self.old.part.vars self.old.path nodes
+            → IsSolved system.now.constraints value self.old.part.vars self.new.path nodes }
     {
         self.visited += 1;
-        self.path.visit(system, &self.chains, self.part.vars.as_slice(), head)
+        self.path
+            .visit(system, &self.chains, self.part.vars.as_slice(), head)
     }
 
     // Reads the solution, and goes to the last branch that is left.
@@ -68,12 +65,15 @@ impl Search {
         ensures visited { self.new.visited ≡ self.old.visited }
         ensures search { IsSearch system.now.vars system.now.constraints self.new }
         ensures values { AreValues self.old.part.vars self.old.path.trail result }
-        ensures left {
-            (value : ℕ → Option OrderSpec) (part : List ℕ) (nodes : Nodes) → ArePending system.now.constraints value part self.old.path nodes
-                → AreLeft system.now.constraints value part self.new.path self.new.path.next nodes
-        }
+        ensures left { (value : ℕ → Option OrderSpec) (part : List ℕ) (nodes : Nodes) → ArePending system.now.constraints value part self.old.path nodes
+            → AreLeft system.now.constraints value part self.new.path self.new.path.next nodes }
     {
-        read_values(self.part.vars.as_slice(), &self.path.trail, system.vars, &mut values);
+        read_values(
+            self.part.vars.as_slice(),
+            &self.path.trail,
+            system.vars,
+            &mut values,
+        );
         self.path.backtrack(system);
         Items::of(values)
     }
@@ -87,10 +87,8 @@ impl Search {
         requires room { length self.old.part.vars ≤ vec_capacity values }
         ensures search { IsSearch system.now.vars system.now.constraints self.new }
         ensures same { IsSameSearch self.old self.new }
-        ensures run {
-            (value : ℕ → Option OrderSpec) (nodes : Nodes) → AreLeft system.now.constraints value self.old.part.vars self.old.path self.old.path.next nodes
-                → IsRun system.now.constraints value turns self.old self.new nodes result
-        }
+        ensures run { (value : ℕ → Option OrderSpec) (nodes : Nodes) → AreLeft system.now.constraints value self.old.part.vars self.old.path self.old.path.next nodes
+            → IsRun system.now.constraints value turns self.old self.new nodes result }
     {
         let cost = self.cost();
         let mut left = turns;

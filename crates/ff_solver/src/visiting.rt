@@ -28,7 +28,13 @@ fn first_open(part: &[u32], trail: &Trail, vars: u32) -> Option<u32>
 impl Path {
     /// Closes the next node, and goes on from it: to the last branch that is left where a constraint is dead, to the first of two
     /// branches where a variable of the part is open. Whether it is a solution instead; the path then stays.
-    pub(crate) fn visit(&mut self, system: &System, chains: &Chains, part: &[u32], head: u32) -> bool
+    pub(crate) fn visit(
+        &mut self,
+        system: &System,
+        chains: &Chains,
+        part: &[u32],
+        head: u32,
+    ) -> bool
         requires few { length system.now.constraints < 2 ^ 32 }
         requires chains { IsChained system.now.vars system.now.constraints chains.now }
         requires part { AreWithin system.now.vars part.now }
@@ -37,14 +43,10 @@ impl Path {
         ensures path { IsPath system.now.vars system.now.constraints self.new }
         ensures ready { result ≡ false → IsReady system.now.constraints self.new.trail self.new.next }
         ensures decided { IsTrue result → AreDecided part.now self.new.trail }
-        ensures passed {
-            result ≡ false → (value : ℕ → Option OrderSpec) (nodes : Nodes) → AreNext system.now.constraints value part.now self.old nodes
-                → IsPassed system.now.constraints value part.now self.new nodes
-        }
-        ensures solved {
-            IsTrue result → (value : ℕ → Option OrderSpec) (nodes : Nodes) → AreNext system.now.constraints value part.now self.old nodes
-                → IsSolved system.now.constraints value part.now self.new nodes
-        }
+        ensures passed { result ≡ false → (value : ℕ → Option OrderSpec) (nodes : Nodes) → AreNext system.now.constraints value part.now self.old nodes
+            → IsPassed system.now.constraints value part.now self.new nodes }
+        ensures solved { IsTrue result → (value : ℕ → Option OrderSpec) (nodes : Nodes) → AreNext system.now.constraints value part.now self.old nodes
+            → IsSolved system.now.constraints value part.now self.new nodes }
     {
         if !self.trail.close(system, chains, head as usize) {
             self.backtrack(system);

@@ -28,7 +28,11 @@ fn constraint(shape: &Shape) -> Constraint {
 }
 
 /// A case of these pairs and constraints, with no starts. The cites are alike.
-pub fn case(alloc: Global, pairs: Vec<(u32, u32)>, shapes: &[Shape]) -> Result<Option<Case>, NoMemory> {
+pub fn case(
+    alloc: Global,
+    pairs: Vec<(u32, u32)>,
+    shapes: &[Shape],
+) -> Result<Option<Case>, NoMemory> {
     let vars = match u32::try_from(pairs.len()) {
         Ok(vars) => vars,
         Err(_) => return Ok(None),
@@ -79,7 +83,13 @@ pub enum Turns<'a> {
 }
 
 // The answer to one call, and whether it was a solution.
-fn call(alloc: Global, text: &mut String, case: &Case, search: &mut Search, turns: u64) -> Result<bool, NoMemory>
+fn call(
+    alloc: Global,
+    text: &mut String,
+    case: &Case,
+    search: &mut Search,
+    turns: u64,
+) -> Result<bool, NoMemory>
     requires stands { StandsAt case.now.system.vars case.now.system.constraints search.old }
     requires few { length case.now.system.constraints < 2 ^ 32 }
     ensures { StandsAt case.now.system.vars case.now.system.constraints search.new }
@@ -93,7 +103,13 @@ fn call(alloc: Global, text: &mut String, case: &Case, search: &mut Search, turn
 }
 
 // The answers to calls, each with what is left of the budget.
-fn spend(alloc: Global, text: &mut String, case: &Case, search: &mut Search, budget: u64) -> Result<(), NoMemory>
+fn spend(
+    alloc: Global,
+    text: &mut String,
+    case: &Case,
+    search: &mut Search,
+    budget: u64,
+) -> Result<(), NoMemory>
     requires stands { StandsAt case.now.system.vars case.now.system.constraints search.old }
     requires few { length case.now.system.constraints < 2 ^ 32 }
     ensures { StandsAt case.now.system.vars case.now.system.constraints search.new }
@@ -108,7 +124,13 @@ fn spend(alloc: Global, text: &mut String, case: &Case, search: &mut Search, bud
 }
 
 // The answers to calls with these turns.
-fn call_all(alloc: Global, text: &mut String, case: &Case, search: &mut Search, calls: &[u64]) -> Result<(), NoMemory>
+fn call_all(
+    alloc: Global,
+    text: &mut String,
+    case: &Case,
+    search: &mut Search,
+    calls: &[u64],
+) -> Result<(), NoMemory>
     requires stands { StandsAt case.now.system.vars case.now.system.constraints search.old }
     requires few { length case.now.system.constraints < 2 ^ 32 }
     ensures { StandsAt case.now.system.vars case.now.system.constraints search.new }
@@ -120,7 +142,13 @@ fn call_all(alloc: Global, text: &mut String, case: &Case, search: &mut Search, 
 }
 
 // The answers to calls, and the turns used.
-fn searched(alloc: Global, text: &mut String, case: &Case, search: &mut Search, turns: Turns) -> Result<(), NoMemory>
+fn searched(
+    alloc: Global,
+    text: &mut String,
+    case: &Case,
+    search: &mut Search,
+    turns: Turns,
+) -> Result<(), NoMemory>
     requires stands { StandsAt case.now.system.vars case.now.system.constraints search.old }
     requires few { length case.now.system.constraints < 2 ^ 32 }
 {
@@ -133,7 +161,14 @@ fn searched(alloc: Global, text: &mut String, case: &Case, search: &mut Search, 
 }
 
 // The part's variables, and what its search comes to.
-fn part_text(alloc: Global, text: &mut String, case: &Case, facts: &Facts, part: &Part, turns: Turns) -> Result<(), NoMemory>
+fn part_text(
+    alloc: Global,
+    text: &mut String,
+    case: &Case,
+    facts: &Facts,
+    part: &Part,
+    turns: Turns,
+) -> Result<(), NoMemory>
     requires board { IsBoardOf case.now.system.vars case.now.system.constraints facts.now }
     requires part { IsPart case.now.system.vars case.now.system.constraints (value_at facts.now) part.now.vars }
     requires few { length case.now.system.constraints < 2 ^ 32 }
@@ -150,7 +185,13 @@ fn part_text(alloc: Global, text: &mut String, case: &Case, facts: &Facts, part:
 }
 
 // The parts of a board.
-fn board_text(alloc: Global, text: &mut String, case: &Case, facts: &Facts, turns: Turns) -> Result<(), NoMemory>
+fn board_text(
+    alloc: Global,
+    text: &mut String,
+    case: &Case,
+    facts: &Facts,
+    turns: Turns,
+) -> Result<(), NoMemory>
     requires board { IsBoardOf case.now.system.vars case.now.system.constraints facts.now }
     requires few { length case.now.system.constraints < 2 ^ 32 }
 {
@@ -163,7 +204,12 @@ fn board_text(alloc: Global, text: &mut String, case: &Case, facts: &Facts, turn
 }
 
 /// The parts that these givens leave, each with the answers to its calls and the turns used.
-pub fn tried(alloc: Global, case: &Case, givens: &[(u32, Order)], turns: Turns) -> Result<String, NoMemory> {
+pub fn tried(
+    alloc: Global,
+    case: &Case,
+    givens: &[(u32, Order)],
+    turns: Turns,
+) -> Result<String, NoMemory> {
     let mut list = Vec::new(alloc);
     for &(var, value) in givens {
         list.push(Given {
@@ -174,7 +220,8 @@ pub fn tried(alloc: Global, case: &Case, givens: &[(u32, Order)], turns: Turns) 
     }
     let given = Items::of(list);
     let mut text = String::new(alloc);
-    let few = case.system.constraints.as_slice().len() < 1 << 32 && given.as_slice().len() < 1 << 32;
+    let few = case.system.constraints.as_slice().len() < 1 << 32
+        && given.as_slice().len() < 1 << 32;
     if !few || !givens_fit(case.system.vars, given.as_slice()) {
         return Ok(text);
     }

@@ -32,7 +32,10 @@ fn a_part_without_solutions(rt: HostRuntime) -> Result<(), Fail> {
     let alloc = rt.alloc();
     let hand = |calls: &[u64]| text(alloc, by_hand(alloc)?, &[], Turns::Calls(calls));
     // The tree has three nodes of two turns. Two nodes use 4 of 5 turns, and 1 turn doesn't cover the third.
-    assert_eq!(rt; hand(&[5, 2, 0, 7])?.as_str(), "part 0 1: spent finished finished finished used 6\n");
+    assert_eq!(rt;
+        hand(&[5, 2, 0, 7])?.as_str(),
+        "part 0 1: spent finished finished finished used 6\n"
+    );
     assert_eq!(rt; hand(&[5])?.as_str(), "part 0 1: spent used 4\n");
     assert_eq!(rt; hand(&[6])?.as_str(), "part 0 1: finished used 6\n");
     assert_eq!(rt; hand(&[0, 1])?.as_str(), "part 0 1: spent spent used 0\n");
@@ -54,11 +57,23 @@ fn three_panels(rt: HostRuntime) -> Result<(), Fail> {
     );
     // The first below the second and the second above the third leave the outer two open.
     assert_eq!(rt;
-        text(alloc, strip(alloc, 3)?, &[(0, Order::Below), (2, Order::Above)], Turns::Budget(9))?.as_str(),
+        text(
+            alloc,
+            strip(alloc, 3)?,
+            &[(0, Order::Below), (2, Order::Above)],
+            Turns::Budget(9)
+        )?
+        .as_str(),
         "part 1: - + finished used 3\n"
     );
     assert_eq!(rt;
-        text(alloc, strip(alloc, 3)?, &[(0, Order::Below), (2, Order::Below), (1, Order::Above)], Turns::Budget(9))?.as_str(),
+        text(
+            alloc,
+            strip(alloc, 3)?,
+            &[(0, Order::Below), (2, Order::Below), (1, Order::Above)],
+            Turns::Budget(9)
+        )?
+        .as_str(),
         "clash"
     );
     Ok(())
@@ -90,14 +105,23 @@ fn summary(rt: HostRuntime, panels: u32, budget: u64) -> Result<String, Fail> {
 #[test]
 fn four_panels(rt: HostRuntime) -> Result<(), Fail> {
     // 31 nodes of six turns; the last is the last solution.
-    assert_eq!(rt; summary(rt, 4, 186)?.as_str(), "16 ------ ++++++ finished used 186");
-    assert_eq!(rt; summary(rt, 4, 185)?.as_str(), "15 ------ +++++- spent used 180");
+    assert_eq!(rt;
+        summary(rt, 4, 186)?.as_str(),
+        "16 ------ ++++++ finished used 186"
+    );
+    assert_eq!(rt;
+        summary(rt, 4, 185)?.as_str(),
+        "15 ------ +++++- spent used 180"
+    );
     Ok(())
 }
 
 #[test]
 fn seven_panels(rt: HostRuntime) -> Result<(), Fail> {
     let text = summary(rt, 7, 1_000_000)?;
-    assert!(rt; text.as_str().starts_with("462 --------------------- +++++++++++++++++++++ finished"));
+    assert!(rt;
+        text.as_str()
+            .starts_with("462 --------------------- +++++++++++++++++++++ finished")
+    );
     Ok(())
 }

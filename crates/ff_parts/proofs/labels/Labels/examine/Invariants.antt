@@ -1,5 +1,4 @@
 use Rattle.ff_propagate.specs.Facts.{value_at}
-use Rattle.ff_parts.specs.Labels.{IsSpreading, Spreads, AllLabelled, HasOwn}
 use Rattle.ff_parts.proofs.Reaching.{IsExamining}
 use Rattle.ff_parts.proofs.labels.Labels.examine.Given as goal
 

@@ -1,4 +1,4 @@
-use Rattle.std.proofs.Common.{◌≡◌, ◌<◌, ◌≤◌, arith, length}
+use Rattle.std.proofs.Common.{arith}
 use Rattle.ff_propagate.specs.Facts.{value_at}
 use Rattle.ff_parts.proofs.Reaching.{queue_long}
 use Rattle.ff_parts.proofs.labels.Labels.spread.Goals as goal

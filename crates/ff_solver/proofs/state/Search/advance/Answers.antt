@@ -1,4 +1,4 @@
-use Rattle.std.proofs.Common.{◌<◌, arith}
+use Rattle.std.proofs.Common.{arith}
 use Rattle.ff_solver.proofs.Advancing.{advanced, stays_finished, stays_spent, no_next, has_next}
 use Rattle.ff_solver.proofs.state.Search.advance.Goals as goal
 

@@ -1,5 +1,4 @@
-use Rattle.std.proofs.Common.{ℕ, ◌<◌, ◌≡◌, ◌-◌, length, arith, subst, sym, ap, ◌∙◌}
-use Rattle.ff_propagate.specs.declared.parts.Part.{Part}
+use Rattle.std.proofs.Common.{ℕ, ◌-◌, arith, subst, sym}
 use Rattle.ff_solver.specs.Searches.{IsRunning}
 use Rattle.ff_solver.proofs.Running.{run_spent, run_found, run_on, run_room}
 use Rattle.ff_solver.proofs.state.Search.run.Goals as goal
@@ -16,7 +15,7 @@ returns-then-step-clause-run c = run_found c.args.system.now.vars c.args.system.
 pub nodes-preserved : goal.nodes-preserved
 nodes-preserved c = subst (λ (n : ℕ). IsRunning c.args.system.now.vars c.args.system.now.constraints c.args.turns c.args.self.now c.step.new.self (c.nodes.left - n)) (sym c.cost-cost.ensures)
     (run_on c.args.system.now.vars c.args.system.now.constraints c.args.turns c.args.self.now c.nodes.self c.step.new.self c.nodes.left c.in-Some.head c.nodes.invariant c.in-Some.is
-        (λ l. omega (arith, l, c.if-left-cost.false, c.cost-cost.ensures)) (c.step.ensures.search c.if-step.false) c.step.ensures.same c.step.ensures.visited (c.step.ensures.passed c.if-step.false))
+    (λ l. omega (arith, l, c.if-left-cost.false, c.cost-cost.ensures)) (c.step.ensures.search c.if-step.false) c.step.ensures.same c.step.ensures.visited (c.step.ensures.passed c.if-step.false))
 
 pub step-requires-clause-room : goal.step-requires-clause-room
 step-requires-clause-room c = run_room c.args.system.now.vars c.args.system.now.constraints c.args.turns c.args.self.now c.nodes.self c.nodes.left c.nodes.invariant

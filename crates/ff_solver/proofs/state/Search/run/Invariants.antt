@@ -1,5 +1,3 @@
-use Rattle.std.proofs.Common.{◌≡◌, ◌≤◌, [], length}
-use Rattle.std.specs.Vec.{vec_capacity}
 use Rattle.ff_solver.specs.Searches.{IsRunning}
 use Rattle.ff_solver.proofs.state.Search.run.Given as goal
 

@@ -1,4 +1,4 @@
-use Rattle.std.proofs.Common.{◌≡◌, ◌+◌, ◌-◌, ◌<◌, ◌≤◌, arith, length, refl}
+use Rattle.std.proofs.Common.{◌≤◌, arith, length}
 use Rattle.ff_solver.proofs.Setting.{grows_trans, trail_long}
 use Rattle.ff_solver.proofs.trail.Trail.close.Goals as goal
 
@@ -11,7 +11,9 @@ loop-at-smaller c =
     omega (arith, a, c.loop-at-test.true, c.len.ensures)
 
 pub loop-at-preserved : goal.loop-at-preserved
-loop-at-preserved c = (c.visit.ensures.trail,
-    grows_trans c.args.system.now.constraints c.args.self.now c.loop-at.self c.visit.new.self c.loop-at.invariant.1 c.visit.ensures.grows,
-    omega (arith, c.loop-at-test.true, c.len.ensures, c.visit.ensures.grows.count),
-    c.visit.ensures.ready c.if-not-visit.false)
+loop-at-preserved c = (
+  c.visit.ensures.trail,
+  grows_trans c.args.system.now.constraints c.args.self.now c.loop-at.self c.visit.new.self c.loop-at.invariant.1 c.visit.ensures.grows,
+  omega (arith, c.loop-at-test.true, c.len.ensures, c.visit.ensures.grows.count),
+  c.visit.ensures.ready c.if-not-visit.false,
+)

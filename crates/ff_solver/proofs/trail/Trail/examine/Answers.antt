@@ -1,5 +1,4 @@
-use Rattle.std.proofs.Common.{◌≡◌, ◌<◌, inl, inr, arith, length}
-use Rattle.std.specs.Vec.{vec_len, vec_capacity}
+use Rattle.std.proofs.Common.{inl, inr, arith}
 use Rattle.ff_solver.proofs.Setting.{IsStep, first_step, first_room, nothing_silent}
 use Rattle.ff_solver.proofs.trail.Trail.examine.Goals as goal
 use Rattle.ff_solver.proofs.trail.Trail.examine.Goals.{After-set}

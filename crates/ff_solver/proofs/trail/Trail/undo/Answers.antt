@@ -1,4 +1,4 @@
-use Rattle.std.proofs.Common.{◌<◌, refl, arith, length}
+use Rattle.std.proofs.Common.{refl, arith}
 use Rattle.ff_solver.proofs.Undoing.{taken_back}
 use Rattle.ff_solver.proofs.trail.Trail.undo.Goals as goal
 
