@@ -84,22 +84,27 @@ fn summary(rt: HostRuntime, panels: u32, budget: u64) -> Result<String, Fail> {
     let alloc = rt.alloc();
     let all = text(alloc, strip(alloc, panels)?, &[], Turns::Budget(budget))?;
     let mut count = 0u32;
-    let mut text = String::new(alloc);
-    let mut last = "";
+    let mut first = String::new(alloc);
+    let mut last = String::new(alloc);
     let mut end = String::new(alloc);
     for word in all.as_str().split_whitespace() {
         if word.starts_with('-') || word.starts_with('+') {
             if count == 0 {
-                text.push_str(word)?;
+                first.push_str(word)?;
             }
-            last = word;
+            last = String::from_str(alloc, word)?;
             count = count.saturating_add(1);
         } else if count > 0 {
             end.push(' ')?;
             end.push_str(word)?;
         }
     }
-    Ok(format!(in alloc; "{count} {} {last}{}", text.as_str(), end.as_str())?)
+    Ok(format!(in alloc;
+        "{count} {} {}{}",
+        first.as_str(),
+        last.as_str(),
+        end.as_str()
+    )?)
 }
 
 #[test]
