@@ -13,16 +13,20 @@ use Rattle.ff_parts.proofs.Reaching.{count_more, label_here, label_other, spread
 use Rattle.ff_parts.proofs.Following.{keeps}
 
 -- the numbers of a rising list are at least their places
-rising_from : (xs : List ℕ) → ((p q : ℕ) → p < q → q < length xs → slice_index xs p < slice_index xs q) → (p : ℕ) → p < length xs → p ≤ slice_index xs p
+rising_from : (xs : List ℕ) → ((p q : ℕ) → p < q → q < length xs → slice_index xs p < slice_index xs q)
+    → (p : ℕ) → p < length xs → p ≤ slice_index xs p
 rising_from xs rise zero l = omega arith
-rising_from xs rise (suc p) l = let r = rising_from xs rise p (omega (arith, l)) in omega (arith, r, rise p (suc p) (omega arith) l)
+rising_from xs rise (suc p) l = let r = rising_from xs rise p
+    (omega (arith, l)) in omega (arith, r, rise p (suc p) (omega arith) l)
 
-pub firsts_few : (vars : ℕ) (cons : List Constraint) (value : ℕ → Option Order) (v : ℕ) (l : Labels) → IsBelow vars cons value v l → length l.firsts.items ≤ v
+pub firsts_few : (vars : ℕ) (cons : List Constraint) (value : ℕ → Option Order) (v : ℕ) (l : Labels)
+    → IsBelow vars cons value v l → length l.firsts.items ≤ v
 firsts_few vars cons value v l is = sort (length l.firsts.items) refl
   where
     sort : (n : ℕ) → length l.firsts.items ≡ n → length l.firsts.items ≤ v
     sort zero e = omega (arith, e)
-    sort (suc n) e = let r = rising_from l.firsts.items is.rising n (omega (arith, e)) in omega (arith, e, r, is.below n (omega (arith, e)))
+    sort (suc n) e = let r = rising_from l.firsts.items is.rising n
+        (omega (arith, e)) in omega (arith, e, r, is.below n (omega (arith, e)))
 
 -- the first of a new part is set down
 pub record IsBegun (v : ℕ) (old mid : Labels) : Type 0 where
@@ -36,30 +40,42 @@ pub record IsBegun (v : ℕ) (old mid : Labels) : Type 0 where
 abbrev with_firsts : Labels → Labels → Labels
 with_firsts old mid = record { part_of = old.part_of; queue = old.queue; firsts = mid.firsts }
 
-labelled_of : (v : ℕ) (old mid : Labels) → IsBegun v old mid → IsLabelled (length old.firsts.items + 1) v (with_firsts old mid) mid
-labelled_of v old mid b = record { none = b.none; part_of = b.part_of; queue = b.queue; room = b.room; firsts = refl }
+labelled_of : (v : ℕ) (old mid : Labels) → IsBegun v old mid
+    → IsLabelled (length old.firsts.items + 1) v (with_firsts old mid) mid
+labelled_of v old mid
+    b = record { none = b.none; part_of = b.part_of; queue = b.queue; room = b.room; firsts = refl }
 
 -- what following the new part needs
-pub record IsStarted (vars : ℕ) (cons : List Constraint) (value : ℕ → Option Order) (p from : ℕ) (mid : Labels) : Type 0 where
+pub record IsStarted (vars : ℕ) (cons : List Constraint) (value : ℕ → Option Order) (p from : ℕ)
+    (mid : Labels) : Type 0 where
   pub spreading : IsSpreading vars cons value p mid
   pub own : AreOf p mid from
   pub ready : Ready cons value mid from
   pub inside : from ≤ length mid.queue.items
 
-pub started : (vars : ℕ) (cons : List Constraint) (value : ℕ → Option Order) (v : ℕ) (old mid : Labels) → IsBelow vars cons value v old → v < vars → value v ≡ None → IsBegun v old mid
+pub started : (vars : ℕ) (cons : List Constraint) (value : ℕ → Option Order) (v : ℕ) (old mid : Labels)
+    → IsBelow vars cons value v old → v < vars → value v ≡ None → IsBegun v old mid
     → IsStarted vars cons value (length old.firsts.items + 1) (length old.queue.items) mid
 started vars cons value v old mid is within none b =
     let p = length old.firsts.items + 1 in
     let l = is.labelling in
     let wide : v < length old.part_of.items = omega (arith, within, l.wide) in
-    let x : Spreads p (with_firsts old mid) mid = spreads_set p v (with_firsts old mid) mid (labelled_of v old mid b) wide in
+    let x : Spreads p (with_firsts old mid) mid = spreads_set p v (with_firsts old mid) mid
+    (labelled_of v old mid b) wide in
     let here : label mid v ≡ p = label_here p v (with_firsts old mid) mid (labelled_of v old mid b) wide in
-    let other : (u : ℕ) → (u ≡ v → ⊥) → label mid u ≡ label old u = label_other p v (with_firsts old mid) mid (labelled_of v old mid b) in
-    let long : length mid.queue.items ≡ length old.queue.items + 1 = ap length b.queue ∙ length-append old.queue.items (v ∷ []) in
-    let more : length mid.firsts.items ≡ length old.firsts.items + 1 = ap length b.firsts ∙ length-append old.firsts.items (v ∷ []) in
+    let other : (u : ℕ) → (u ≡ v → ⊥)
+    → label mid u ≡ label old u = label_other p v (with_firsts old mid) mid (labelled_of v old mid b) in
+    let long : length mid.queue.items ≡ length old.queue.items + 1 = ap length b.queue
+    ∙ length-append old.queue.items (v ∷ []) in
+    let more : length mid.firsts.items ≡ length old.firsts.items + 1 = ap length b.firsts
+    ∙ length-append old.firsts.items (v ∷ []) in
     let open_v : IsUndecided vars value v = record { variable = within; open_yet = none } in
-    let at_first : (q : ℕ) → q < length old.firsts.items → slice_index mid.firsts.items q ≡ slice_index old.firsts.items q = λ q m. ap (λ xs. get_or xs q 0) b.firsts ∙ get_or_append_left old.firsts.items (v ∷ []) 0 q m in
-    let last_first : slice_index mid.firsts.items (length old.firsts.items) ≡ v = ap (λ xs. get_or xs (length old.firsts.items) 0) b.firsts ∙ get_or_push old.firsts.items v 0 (length old.firsts.items) refl in
+    let at_first : (q : ℕ) → q < length old.firsts.items
+    → slice_index mid.firsts.items q ≡ slice_index old.firsts.items q = λ q m. ap (λ xs. get_or xs q 0)
+    b.firsts ∙ get_or_append_left old.firsts.items (v ∷ []) 0 q m in
+    let last_first : slice_index mid.firsts.items (length old.firsts.items) ≡
+    v = ap (λ xs. get_or xs (length old.firsts.items) 0) b.firsts
+    ∙ get_or_push old.firsts.items v 0 (length old.firsts.items) refl in
     record {
       spreading = record {
         labelling = record {
@@ -68,9 +84,13 @@ started vars cons value v old mid is within none b =
           room = omega (arith, l.room, b.room);
           count = omega (arith, long, l.count, ap count_set b.part_of ∙ count_more old.part_of.items v p wide b.none (omega arith));
           queued = λ i m. elim (cases_eq i (length old.queue.items)) [
-            | inl e ↦ subst (λ u. 0 < label mid u) (sym (ap (λ xs. get_or xs i 0) b.queue ∙ get_or_push old.queue.items v 0 i (sym e))) (omega (arith, here))
+            | inl e ↦ subst (λ u. 0 < label mid u)
+                (sym (ap (λ xs. get_or xs i 0) b.queue ∙ get_or_push old.queue.items v 0 i (sym e)))
+                (omega (arith, here))
             | inr ne ↦ (let m' : i < length old.queue.items = omega (arith, m, long, ne) in
-                subst (λ u. 0 < label mid u) (sym (x.front i m')) (kept_label p (with_firsts old mid) mid x (slice_index old.queue.items i) (l.queued i m')))
+                subst (λ u. 0 < label mid u) (sym (x.front i m'))
+                (kept_label p (with_firsts old mid) mid x (slice_index old.queue.items i)
+                (l.queued i m')))
           ];
           undecided = λ u some. elim (cases_eq u v) [
             | inl e ↦ subst (IsUndecided vars value) (sym e) open_v
@@ -78,48 +98,68 @@ started vars cons value v old mid is within none b =
           ];
           reached = λ u q e. elim (cases_eq u v) [
             | inl same ↦ (
-                let q_is : q ≡ length old.firsts.items = suc_same (sym e ∙ ap (label mid) same ∙ here ∙ add-one (length old.firsts.items)) in
-                (omega (arith, q_is, more), ([], ap (slice_index mid.firsts.items) q_is ∙ last_first ∙ sym same)))
+                let q_is : q ≡ length old.firsts.items = suc_same
+                (sym e ∙ ap (label mid) same ∙ here ∙ add-one (length old.firsts.items)) in (
+                  omega (arith, q_is, more),
+                  ([], ap (slice_index mid.firsts.items) q_is ∙ last_first ∙ sym same),
+                ))
             | inr ne ↦ (
-                let r = l.reached u q (sym (other u ne) ∙ e) in
-                (omega (arith, r.0, more), subst (λ w. AreConnected vars cons value w u) (sym (at_first q r.0)) r.1))
+                let r = l.reached u q (sym (other u ne) ∙ e) in (
+                  omega (arith, r.0, more),
+                  subst (λ w. AreConnected vars cons value w u)
+                      (sym (at_first q r.0)) r.1,
+                ))
           ];
         };
-        mixed = λ c con at. mixed_kept value p (with_firsts old mid) mid con x (λ i j li lj oi oj. inl (is.alike c con at i j li lj oi oj));
+        mixed = λ c con at. mixed_kept value p (with_firsts old mid) mid con x
+            (λ i j li lj oi oj. inl (is.alike c con at i j li lj oi oj));
         last = sym more;
         some = omega arith;
       };
       own = λ i a m. (let e : i ≡ length old.queue.items = omega (arith, a, m, long) in
-          ap (label mid) (ap (λ xs. get_or xs i 0) b.queue ∙ get_or_push old.queue.items v 0 i (sym e)) ∙ here);
-      ready = λ c con at. keeps value p (with_firsts old mid) mid (length old.queue.items) con x (omega arith) (inr (is.alike c con at));
+          ap (label mid) (ap (λ xs. get_or xs i 0) b.queue ∙ get_or_push old.queue.items v 0 i (sym e))
+          ∙ here);
+      ready = λ c con at. keeps value p (with_firsts old mid) mid (length old.queue.items) con x (omega arith)
+          (inr (is.alike c con at));
       inside = omega (arith, long);
     }
   where
     suc_same : {a b : ℕ} → suc a ≡ suc b → a ≡ b
     suc_same r = omega (arith, r)
 
-all_alike : (cons : List Constraint) (value : ℕ → Option Order) (l : Labels) → Ready cons value l (length l.queue.items) → (c : ℕ) (con : Constraint) → slice_get cons c ≡ Some con → AreAlike value l con
+all_alike : (cons : List Constraint) (value : ℕ → Option Order) (l : Labels)
+    → Ready cons value l (length l.queue.items) → (c : ℕ) (con : Constraint) → slice_get cons c ≡ Some con
+    → AreAlike value l con
 all_alike cons value l ready c con at = pick (ready c con at)
   where
     pick : Rests value l (length l.queue.items) con → AreAlike value l con
     pick (inl (i, j, a, b, m, e)) = absurd (omega (arith, a, b))
     pick (inr alike) = alike
 
-pub begun : (vars : ℕ) (cons : List Constraint) (value : ℕ → Option Order) (v : ℕ) (old mid new : Labels) → IsBelow vars cons value v old → v < vars → value v ≡ None → IsBegun v old mid
-    → IsSpreading vars cons value (length old.firsts.items + 1) new → Spreads (length old.firsts.items + 1) mid new → Ready cons value new (length new.queue.items) → IsBelow vars cons value (v + 1) new
+pub begun : (vars : ℕ) (cons : List Constraint) (value : ℕ → Option Order) (v : ℕ) (old mid new : Labels)
+    → IsBelow vars cons value v old → v < vars → value v ≡ None → IsBegun v old mid
+    → IsSpreading vars cons value (length old.firsts.items + 1) new
+    → Spreads (length old.firsts.items + 1) mid new → Ready cons value new (length new.queue.items)
+    → IsBelow vars cons value (v + 1) new
 begun vars cons value v old mid new is within none b s y ready =
     let n = length old.firsts.items in
     let p = n + 1 in
     let l = is.labelling in
     let wide : v < length old.part_of.items = omega (arith, within, l.wide) in
-    let x : Spreads p (with_firsts old mid) mid = spreads_set p v (with_firsts old mid) mid (labelled_of v old mid b) wide in
+    let x : Spreads p (with_firsts old mid) mid = spreads_set p v (with_firsts old mid) mid
+    (labelled_of v old mid b) wide in
     let here : label mid v ≡ p = label_here p v (with_firsts old mid) mid (labelled_of v old mid b) wide in
-    let z : Spreads p (with_firsts old mid) new = spreads_trans p (with_firsts old mid) mid new (omega arith) x y in
+    let z : Spreads p (with_firsts old mid) new = spreads_trans p (with_firsts old mid) mid new (omega arith)
+    x y in
     let here_new : label new v ≡ suc n = y.kept v (omega (arith, here)) ∙ here ∙ add-one n in
     let firsts : new.firsts.items ≡ old.firsts.items ++ v ∷ [] = ap (λ fs. fs.items) y.firsts ∙ b.firsts in
     let more : length new.firsts.items ≡ n + 1 = ap length firsts ∙ length-append old.firsts.items (v ∷ []) in
-    let at_first : (q : ℕ) → q < n → slice_index new.firsts.items q ≡ slice_index old.firsts.items q = λ q m. ap (λ xs. get_or xs q 0) firsts ∙ get_or_append_left old.firsts.items (v ∷ []) 0 q m in
-    let last_first : (q : ℕ) → q ≡ n → slice_index new.firsts.items q ≡ v = λ q e. ap (λ xs. get_or xs q 0) firsts ∙ get_or_push old.firsts.items v 0 q (sym e) in
+    let at_first : (q : ℕ) → q < n
+    → slice_index new.firsts.items q ≡ slice_index old.firsts.items q = λ q m. ap (λ xs. get_or xs q 0)
+    firsts ∙ get_or_append_left old.firsts.items (v ∷ []) 0 q m in
+    let last_first : (q : ℕ) → q ≡ n
+    → slice_index new.firsts.items q ≡ v = λ q e. ap (λ xs. get_or xs q 0) firsts
+    ∙ get_or_push old.firsts.items v 0 q (sym e) in
     record {
       labelling = s.labelling;
       room = omega (arith, is.room, b.firsts_room, ap (λ fs. vec_capacity fs) y.firsts);
@@ -137,7 +177,8 @@ begun vars cons value v old mid new is within none b s y ready =
             subst (λ w. w ≤ u) (sym (at_first q r.0)) f)
         | inr since ↦ (
             let q_is : q ≡ n = suc_same (sym e ∙ since.1 ∙ add-one n) in
-            subst (λ w. w ≤ u) (sym (last_first q q_is)) (not_below u since.0 (s.labelling.undecided u (omega (arith, e)))))
+            subst (λ w. w ≤ u) (sym (last_first q q_is))
+            (not_below u since.0 (s.labelling.undecided u (omega (arith, e)))))
       ];
       rising = λ a c less m. elim (cases_eq c n) [
         | inl e ↦ (let m' : a < n = omega (arith, less, e) in omega (arith, at_first a m', last_first c e, is.below a m'))
@@ -166,7 +207,8 @@ begun vars cons value v old mid new is within none b s y ready =
     ]
 
 -- a variable that is decided or labelled
-pub passed : (vars : ℕ) (cons : List Constraint) (value : ℕ → Option Order) (v : ℕ) (l : Labels) → IsBelow vars cons value v l → (value v ≡ None → 0 < label l v) → IsBelow vars cons value (v + 1) l
+pub passed : (vars : ℕ) (cons : List Constraint) (value : ℕ → Option Order) (v : ℕ) (l : Labels)
+    → IsBelow vars cons value v l → (value v ≡ None → 0 < label l v) → IsBelow vars cons value (v + 1) l
 passed vars cons value v l is has = record {
   labelling = is.labelling;
   room = is.room;
@@ -182,7 +224,9 @@ passed vars cons value v l is has = record {
 }
 
 -- no variable is labelled yet
-pub none_labelled : (vars : ℕ) (cons : List Constraint) (value : ℕ → Option Order) (l : Labels) → vars < 2 ^ 32 → l.part_of.items ≡ replicate vars 0 → l.queue.items ≡ [] → vars ≤ vec_capacity l.queue → l.firsts.items ≡ []
+pub none_labelled : (vars : ℕ) (cons : List Constraint) (value : ℕ → Option Order) (l : Labels)
+    → vars < 2 ^ 32 → l.part_of.items ≡ replicate vars 0 → l.queue.items ≡ [] → vars ≤ vec_capacity l.queue
+    → l.firsts.items ≡ []
     → vars ≤ vec_capacity l.firsts → IsBelow vars cons value 0 l
 none_labelled vars cons value l few labels queue room firsts firsts_room = record {
   labelling = record {
@@ -195,7 +239,8 @@ none_labelled vars cons value l few labels queue room firsts firsts_room = recor
     reached = λ v p e. absurd (omega (arith, e, zero_at v));
   };
   room = firsts_room;
-  alike = λ c con at i j li lj oi oj. zero_at (term_at con.terms i).var ∙ sym (zero_at (term_at con.terms j).var);
+  alike = λ c con at i j li lj oi oj. zero_at (term_at con.terms i).var
+      ∙ sym (zero_at (term_at con.terms j).var);
   first = λ p m. absurd (omega (arith, m, ap length firsts));
   least = λ u p e. absurd (omega (arith, e, zero_at u));
   rising = λ p q a m. absurd (omega (arith, m, ap length firsts));

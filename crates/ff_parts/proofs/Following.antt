@@ -11,7 +11,8 @@ use Rattle.ff_parts.specs.Labels.{label, AreAlike, IsOwn, AreMixed, Rests, Ready
 use Rattle.ff_parts.proofs.Reaching.{spreads_refl, spreads_trans}
 
 -- some place below n has Q, or each has P
-scan : (P Q : ℕ → Type 0) (n : ℕ) → ((j : ℕ) → P j ⊎ Q j) → ((j : ℕ) × (j < n) × Q j) ⊎ ((j : ℕ) → j < n → P j)
+scan : (P Q : ℕ → Type 0) (n : ℕ) → ((j : ℕ) → P j ⊎ Q j)
+    → ((j : ℕ) × (j < n) × Q j) ⊎ ((j : ℕ) → j < n → P j)
 scan P Q zero h = inr (λ j l. absurd (omega (arith, l)))
 scan P Q (suc n) h = elim (scan P Q n h) [
   | inl r ↦ inl (r.0, omega (arith, r.1), r.2)
@@ -21,19 +22,23 @@ scan P Q (suc n) h = elim (scan P Q n h) [
   ]
 ]
 
-pub keeps : (value : ℕ → Option Order) (p : ℕ) (old new : Labels) (head : ℕ) (con : Constraint) → Spreads p old new → head ≤ length old.queue.items → Rests value old head con → Rests value new head con
-keeps value p old new head con x h (inl (i, j, a, b, l, e)) = inl (i, j, a, omega (arith, b, x.count), l, x.front i b ∙ e)
+pub keeps : (value : ℕ → Option Order) (p : ℕ) (old new : Labels) (head : ℕ) (con : Constraint)
+    → Spreads p old new → head ≤ length old.queue.items → Rests value old head con → Rests value new head con
+keeps value p old new head con x h
+    (inl (i, j, a, b, l, e)) = inl (i, j, a, omega (arith, b, x.count), l, x.front i b ∙ e)
 keeps value p old new head con x h (inr alike) = elim (scan
     (λ j. label new (term_at con.terms j).var ≡ label old (term_at con.terms j).var)
     (λ j. (label old (term_at con.terms j).var ≡ 0) × (label new (term_at con.terms j).var ≡ p)
-    × ((i : ℕ) × (length old.queue.items ≤ i) × (i < length new.queue.items) × (slice_index new.queue.items i ≡ (term_at con.terms j).var)))
+    × ((i : ℕ) × (length old.queue.items ≤ i) × (i < length new.queue.items)
+    × (slice_index new.queue.items i ≡ (term_at con.terms j).var)))
     (length con.terms) (λ j. x.changed (term_at con.terms j).var)) [
       | inl r ↦ inl (r.2.2.0, r.0, omega (arith, h, r.2.2.1), r.2.2.2, r.1, r.2.2.3)
       | inr same ↦ inr (λ i j li lj oi oj. same i li ∙ alike i j li lj oi oj ∙ sym (same j lj))
     ]
 
 -- where all are labelled and mixed they are alike
-labelled_alike : (value : ℕ → Option Order) (p : ℕ) (l : Labels) (con : Constraint) → AllLabelled value l con (length con.terms) → AreMixed value p l con → AreAlike value l con
+labelled_alike : (value : ℕ → Option Order) (p : ℕ) (l : Labels) (con : Constraint)
+    → AllLabelled value l con (length con.terms) → AreMixed value p l con → AreAlike value l con
 labelled_alike value p l con labelled mixed i j li lj oi oj = elim (mixed i j li lj oi oj) [
   | inl e ↦ e
   | inr (a, b) ↦ own a (labelled i li oi) ∙ sym (own b (labelled j lj oj))
@@ -49,9 +54,12 @@ IsLeft con c v k = (c < k) × HasVar con v
 
 -- each constraint rests, or is left to be visited
 abbrev pub Almost : List Constraint → (ℕ → Option Order) → Labels → ℕ → ℕ → ℕ → Type 0
-Almost cons value l head v k = (c : ℕ) (con : Constraint) → slice_get cons c ≡ Some con → Rests value l head con ⊎ IsLeft con c v k
+Almost cons value l head v k = (c : ℕ) (con : Constraint) → slice_get cons c ≡ Some con
+    → Rests value l head con ⊎ IsLeft con c v k
 
-pub begins : (cons : List Constraint) (value : ℕ → Option Order) (l : Labels) (head v k : ℕ) → slice_index l.queue.items head ≡ v → Ready cons value l head → Covers cons (length cons) v k → Almost cons value l (head + 1) v k
+pub begins : (cons : List Constraint) (value : ℕ → Option Order) (l : Labels) (head v k : ℕ)
+    → slice_index l.queue.items head ≡ v → Ready cons value l head → Covers cons (length cons) v k
+    → Almost cons value l (head + 1) v k
 begins cons value l head v k here ready covers c con at = sort (ready c con at)
   where
     sort : Rests value l head con → Rests value l (head + 1) con ⊎ IsLeft con c v k
@@ -63,8 +71,10 @@ begins cons value l head v k here ready covers c con at = sort (ready c con at)
     ]
 
 -- one constraint is visited
-visits : (cons : List Constraint) (value : ℕ → Option Order) (p : ℕ) (old new : Labels) (head v k n : ℕ) → Spreads p old new → head ≤ length old.queue.items → Almost cons value old head v (n + 1)
-    → ((con : Constraint) → slice_get cons n ≡ Some con → HasVar con v → Rests value new head con) → Covers cons n v k → Almost cons value new head v k
+visits : (cons : List Constraint) (value : ℕ → Option Order) (p : ℕ) (old new : Labels) (head v k n : ℕ)
+    → Spreads p old new → head ≤ length old.queue.items → Almost cons value old head v (n + 1)
+    → ((con : Constraint) → slice_get cons n ≡ Some con → HasVar con v → Rests value new head con)
+    → Covers cons n v k → Almost cons value new head v k
 visits cons value p old new head v k n x h almost here covers c con at = sort (almost c con at)
   where
     sort : Rests value old head con ⊎ IsLeft con c v (n + 1) → Rests value new head con ⊎ IsLeft con c v k
@@ -74,7 +84,8 @@ visits cons value p old new head v k n x h almost here covers c con at = sort (a
       | inr ne ↦ inr (covers c con i (omega (arith, l, ne)) at b e, (i, b, e))
     ]
 
-ends : (cons : List Constraint) (value : ℕ → Option Order) (l : Labels) (head v k : ℕ) → k ≤ 0 → Almost cons value l head v k → Ready cons value l head
+ends : (cons : List Constraint) (value : ℕ → Option Order) (l : Labels) (head v k : ℕ) → k ≤ 0
+    → Almost cons value l head v k → Ready cons value l head
 ends cons value l head v k z almost c con at = sort (almost c con at)
   where
     sort : Rests value l head con ⊎ IsLeft con c v k → Rests value l head con
@@ -84,19 +95,25 @@ ends cons value l head v k z almost c con at = sort (almost c con at)
 pub same_con : {o : Option Constraint} {a b : Constraint} → o ≡ Some a → o ≡ Some b → a ≡ b
 same_con p q = cc
 
-pub con_read : (cons cs : List Constraint) (k : ℕ) (con : Constraint) → cs ≡ cons → k < length cons → con ≡ get_or cs k con → slice_get cons k ≡ Some con
-con_read cons cs k con same l is = slice_get-get_or cons k con l ∙ ap (λ d. Some d) (sym (is ∙ ap (λ ds. get_or ds k con) same))
+pub con_read : (cons cs : List Constraint) (k : ℕ) (con : Constraint) → cs ≡ cons → k < length cons
+    → con ≡ get_or cs k con → slice_get cons k ≡ Some con
+con_read cons cs k con same l is = slice_get-get_or cons k con l
+    ∙ ap (λ d. Some d) (sym (is ∙ ap (λ ds. get_or ds k con) same))
 
 -- what holds while the constraints of the variable reached as the head-th are gone through
-pub record IsVisiting (vars : ℕ) (cons : List Constraint) (value : ℕ → Option Order) (p head v left : ℕ) (old now : Labels) : Type 0 where
+pub record IsVisiting (vars : ℕ) (cons : List Constraint) (value : ℕ → Option Order) (p head v left : ℕ)
+    (old now : Labels) : Type 0 where
   pub spreading : IsSpreading vars cons value p now
   pub spreads : Spreads p old now
   pub inside : left ≤ length cons
   pub own : label now v ≡ p
   pub almost : Almost cons value now (head + 1) v left
 
-pub visit_begins : (vars : ℕ) (cons : List Constraint) (value : ℕ → Option Order) (p head v left : ℕ) (l : Labels) → IsSpreading vars cons value p l → slice_index l.queue.items head ≡ v → label l (slice_index l.queue.items head) ≡ p
-    → Ready cons value l head → left ≤ length cons → Covers cons (length cons) v left → IsVisiting vars cons value p head v left l l
+pub visit_begins : (vars : ℕ) (cons : List Constraint) (value : ℕ → Option Order) (p head v left : ℕ)
+    (l : Labels) → IsSpreading vars cons value p l → slice_index l.queue.items head ≡ v
+    → label l (slice_index l.queue.items head) ≡ p
+    → Ready cons value l head → left ≤ length cons → Covers cons (length cons) v left
+    → IsVisiting vars cons value p head v left l l
 visit_begins vars cons value p head v left l s here own ready inside covers = record {
   spreading = s;
   spreads = spreads_refl p l;
@@ -106,8 +123,12 @@ visit_begins vars cons value p head v left l s here own ready inside covers = re
 }
 
 -- the constraint before left has the variable and is examined
-pub visit_on : (vars : ℕ) (cons : List Constraint) (value : ℕ → Option Order) (p head v left k : ℕ) (old now new : Labels) (con : Constraint) → IsVisiting vars cons value p head v left old now → head < length old.queue.items → 0 < left
-    → slice_get cons (left - 1) ≡ Some con → IsSpreading vars cons value p new → Spreads p now new → (HasVar con v → AllLabelled value new con (length con.terms)) → k ≤ left - 1 → Covers cons (left - 1) v k
+pub visit_on : (vars : ℕ) (cons : List Constraint) (value : ℕ → Option Order) (p head v left k : ℕ)
+    (old now new : Labels) (con : Constraint) → IsVisiting vars cons value p head v left old now
+    → head < length old.queue.items → 0 < left
+    → slice_get cons (left - 1) ≡ Some con → IsSpreading vars cons value p new → Spreads p now new
+    → (HasVar con v → AllLabelled value new con (length con.terms)) → k ≤ left - 1
+    → Covers cons (left - 1) v k
     → IsVisiting vars cons value p head v k old new
 visit_on vars cons value p head v left k old now new con vis h some at s x labelled inside covers =
     let e : left - 1 + 1 ≡ left = omega (arith, some) in
@@ -116,22 +137,31 @@ visit_on vars cons value p head v left k old now new con vis h some at s x label
       spreads = spreads_trans p old now new s.some vis.spreads x;
       inside = omega (arith, inside, vis.inside);
       own = x.kept v (omega (arith, vis.own, s.some)) ∙ vis.own;
-      almost = visits cons value p now new (head + 1) v k (left - 1) x (omega (arith, h, vis.spreads.count)) (subst (λ n. Almost cons value now (head + 1) v n) (sym e) vis.almost)
-          (λ d there has. subst (λ q. Rests value new (head + 1) q) (same_con at there) (inr (labelled_alike value p new con (labelled (subst (λ q. HasVar q v) (same_con there at) has)) (s.mixed (left - 1) con at)))) covers;
+      almost = visits cons value p now new (head + 1) v k (left - 1) x (omega (arith, h, vis.spreads.count))
+          (subst (λ n. Almost cons value now (head + 1) v n) (sym e) vis.almost)
+          (λ d there has. subst (λ q. Rests value new (head + 1) q) (same_con at there)
+          (inr (labelled_alike value p new con
+          (labelled (subst (λ q. HasVar q v) (same_con there at) has)) (s.mixed (left - 1) con at))))
+          covers;
     }
 
-pub visit_ends : (vars : ℕ) (cons : List Constraint) (value : ℕ → Option Order) (p head v left : ℕ) (old now : Labels) → IsVisiting vars cons value p head v left old now → left ≤ 0 → Ready cons value now (head + 1)
+pub visit_ends : (vars : ℕ) (cons : List Constraint) (value : ℕ → Option Order) (p head v left : ℕ)
+    (old now : Labels) → IsVisiting vars cons value p head v left old now → left ≤ 0
+    → Ready cons value now (head + 1)
 visit_ends vars cons value p head v left old now vis z = ends cons value now (head + 1) v left z vis.almost
 
 -- what holds while the queue is gone through
-pub record IsFollowing (vars : ℕ) (cons : List Constraint) (value : ℕ → Option Order) (p at : ℕ) (old now : Labels) : Type 0 where
+pub record IsFollowing (vars : ℕ) (cons : List Constraint) (value : ℕ → Option Order) (p at : ℕ)
+    (old now : Labels) : Type 0 where
   pub spreading : IsSpreading vars cons value p now
   pub spreads : Spreads p old now
   pub inside : at ≤ length now.queue.items
   pub own : AreOf p now at
   pub ready : Ready cons value now at
 
-pub follow_on : (vars : ℕ) (cons : List Constraint) (value : ℕ → Option Order) (p at : ℕ) (old now new : Labels) → IsFollowing vars cons value p at old now → at < length now.queue.items → IsSpreading vars cons value p new → Spreads p now new
+pub follow_on : (vars : ℕ) (cons : List Constraint) (value : ℕ → Option Order) (p at : ℕ)
+    (old now new : Labels) → IsFollowing vars cons value p at old now → at < length now.queue.items
+    → IsSpreading vars cons value p new → Spreads p now new
     → Ready cons value new (at + 1) → IsFollowing vars cons value p (at + 1) old new
 follow_on vars cons value p at old now new f l s x ready = record {
   spreading = s;
@@ -146,4 +176,8 @@ follow_on vars cons value p at old now new f l s x ready = record {
   where
     lt_or : (i n : ℕ) → (i < n) ⊎ (n ≤ i)
     lt_or i zero = inr (omega arith)
-    lt_or i (suc n) = elim (lt_or i n) [ inl l ↦ inl (omega (arith, l)) | inr l ↦ elim (cases_eq i n) [ inl e ↦ inl (omega (arith, e)) | inr ne ↦ inr (omega (arith, l, ne)) ] ]
+    lt_or i (suc n) = elim (lt_or i n) [
+      | inl l ↦ inl (omega (arith, l))
+      | inr l ↦ elim (cases_eq i n)
+          [ inl e ↦ inl (omega (arith, e)) | inr ne ↦ inr (omega (arith, l, ne)) ]
+    ]

@@ -8,7 +8,8 @@ lists_in vs = map (λ v. v.items) vs
 -- of the numbers below n those at which the label stands, in increasing order
 abbrev pub members : List ℕ → ℕ → ℕ → List ℕ
 members labels zero k = []
-members labels (suc n) k = if slice_index labels n == k then members labels n k ++ n ∷ [] else members labels n k
+members labels (suc n) k = if slice_index labels n == k then members labels n k ++ n ∷ [] else members labels
+    n k
 
 -- for each of the labels 1, 2 and so on its numbers below n
 pub record Gathers (labels : List ℕ) (n many : ℕ) (lists : List (List ℕ)) : Type 0 where

@@ -46,12 +46,14 @@ some_or_none (Some s) = inl (s, refl)
 clash : {A : Type 0} {o : Option Order} {s : Order} → o ≡ None → o ≡ Some s → A
 clash p q = cc
 
-module _ (vars : ℕ) (cons : List Constraint) (value : ℕ → Option Order) (part : List ℕ) (fit : AreFit vars cons) (quiet : IsQuiet cons value) (is_part : IsPart vars cons value part) where
+module _ (vars : ℕ) (cons : List Constraint) (value : ℕ → Option Order) (part : List ℕ)
+    (fit : AreFit vars cons) (quiet : IsQuiet cons value) (is_part : IsPart vars cons value part) where
   part_open : (i : ℕ) → i < length part → value (slice_index part i) ≡ None
   part_open i l = (is_part.undecided i l).open_yet
 
   -- a solution that has what was tried has the node's closure
-  pub has_node : (xs : List Order) → length xs ≡ length part → is_solution cons value part xs ≡ true → (tried : List (ℕ × Order)) → HasTried (joint value part xs) tried
+  pub has_node : (xs : List Order) → length xs ≡ length part → is_solution cons value part xs ≡ true
+      → (tried : List (ℕ × Order)) → HasTried (joint value part xs) tried
       → (v : ℕ) (s : Order) → AtNode cons (Knows value) tried v s → joint value part xs v ≡ Some s
   has_node xs long meets tried has v s inside = test_some (f v) s (inside (λ u t. test (f u) t) (record {
     base_held = λ u t b. some_test (f u) t (based u t b);
@@ -65,18 +67,23 @@ module _ (vars : ℕ) (cons : List Constraint) (value : ℕ → Option Order) (p
       based u t (inl known) = joint_keeps value part xs u t part_open known
       based u t (inr among) = has u t among
 
-      forced : (c : ℕ) (con : Constraint) (u : ℕ) (t : Order) → slice_get cons c ≡ Some con → Forces con.kind con.terms (λ y b. test (f y) b ≡ true) u t → f u ≡ Some t
+      forced : (c : ℕ) (con : Constraint) (u : ℕ) (t : Order) → slice_get cons c ≡ Some con
+          → Forces con.kind con.terms (λ y b. test (f y) b ≡ true) u t → f u ≡ Some t
       forced c con u t is (p, l, e, only) = elim (some_or_none (f u)) [
         | inl k ↦ (
             let r = (has_row-decides f con).0 (all_at (has_row f) cons c con meets is) in
             let fl = (term_at con.terms p).flipped in
-            let a : row_at r.1 p ≡ turn fl k.0 = r.3 p (turn fl k.0) l (ap f e ∙ k.1 ∙ ap (λ b. Some b) (sym (turn_turn fl k.0))) in
-            let b : row_at r.1 p ≡ turn fl t = only r.0 r.1 r.2 (λ j b m q. r.3 j b m (test_some (f (term_at con.terms j).var) (turn (term_at con.terms j).flipped b) q)) in
+            let a : row_at r.1 p ≡ turn fl k.0 = r.3 p (turn fl k.0) l
+            (ap f e ∙ k.1 ∙ ap (λ b. Some b) (sym (turn_turn fl k.0))) in
+            let b : row_at r.1 p ≡ turn fl t = only r.0 r.1 r.2
+            (λ j b m q. r.3 j b m
+            (test_some (f (term_at con.terms j).var) (turn (term_at con.terms j).flipped b) q)) in
             k.1 ∙ ap (λ b. Some b) (turn_one fl k.0 t (sym a ∙ b)))
         | inr none ↦ (
             let away : Stands part u → ⊥ = joint_none value part xs u long none in
             -- no term of the constraint is of the part, so what is known of it the board knows
-            let plain : (j : ℕ) (b : Order) → j < length con.terms → f (term_at con.terms j).var ≡ Some b → value (term_at con.terms j).var ≡ Some b =
+            let plain : (j : ℕ) (b : Order) → j < length con.terms → f (term_at con.terms j).var ≡ Some b
+            → value (term_at con.terms j).var ≡ Some b =
             λ j b m q. elim (joint_either value part xs (term_at con.terms j).var) [
               | inl st ↦ absurd (away (subst (λ y. Stands part y) e (in_part vars cons value part fit is_part c con is j p m l st
                   (elim (some_or_none (value (term_at con.terms p).var)) [
@@ -90,6 +97,7 @@ module _ (vars : ℕ) (cons : List Constraint) (value : ℕ → Option Order) (p
               l,
               e,
               λ k row at a. only k row at (λ j b m q. a j b m
-                  (plain j (turn (term_at con.terms j).flipped b) m (test_some (f (term_at con.terms j).var) (turn (term_at con.terms j).flipped b) q))),
+                  (plain j (turn (term_at con.terms j).flipped b) m
+                  (test_some (f (term_at con.terms j).var) (turn (term_at con.terms j).flipped b) q))),
             ))))
       ]

@@ -22,11 +22,16 @@ visits_some (Fork below above) later e = cc
 pub times_more : (cost steps : ℕ) → cost * (steps + 1) ≡ cost * steps + cost
 times_more cost steps = ap (λ n. cost * n) (add-one steps) ∙ mul-suc cost steps
 
-next_of : (cons : List Constraint) (value : ℕ → Option Order) (part : List ℕ) (p : Path) (o : Option ℕ) (head : ℕ) (nodes : Nodes) → o ≡ Some head → AreLeft cons value part p o nodes → AreNext cons value part p nodes
+next_of : (cons : List Constraint) (value : ℕ → Option Order) (part : List ℕ) (p : Path) (o : Option ℕ)
+    (head : ℕ) (nodes : Nodes) → o ≡ Some head → AreLeft cons value part p o nodes
+    → AreNext cons value part p nodes
 next_of cons value part p o head nodes e left = subst (λ x. AreLeft cons value part p x nodes) e left
 
-pub run_spent : (vars : ℕ) (cons : List Constraint) (turns : ℕ) (old now : Search) (left head : ℕ) → IsRunning vars cons turns old now left → now.path.next ≡ Some head → left < length old.part.vars
-    → (value : ℕ → Option Order) (nodes : Nodes) → AreLeft cons value old.part.vars old.path old.path.next nodes → IsRun cons value turns old now nodes Spent
+pub run_spent : (vars : ℕ) (cons : List Constraint) (turns : ℕ) (old now : Search) (left head : ℕ)
+    → IsRunning vars cons turns old now left → now.path.next ≡ Some head → left < length old.part.vars
+    → (value : ℕ → Option Order) (nodes : Nodes)
+    → AreLeft cons value old.part.vars old.path old.path.next nodes
+    → IsRun cons value turns old now nodes Spent
 run_spent vars cons turns old now left head r at short value nodes are =
     let g = r.gone value nodes are in
     let next = next_of cons value old.part.vars now.path now.path.next head g.later at g.left in
@@ -47,20 +52,32 @@ some_same : {s t : Order} → Some s ≡ Some t → s ≡ t
 some_same e = cc
 
 same_values : (part : List ℕ) (t : Trail) (a b : List Order) → AreValues part t a → AreValues part t b → a ≡ b
-same_values part t a b x y = ext_get_or Below a b (x.as_many ∙ sym y.as_many) (λ i l. let m : i < length part = omega (arith, l, x.as_many) in some_same (sym (x.each i m) ∙ y.each i m))
+same_values part t a b x y = ext_get_or Below a b (x.as_many ∙ sym y.as_many)
+    (λ i l. let m : i < length part = omega (arith, l, x.as_many) in some_same
+    (sym (x.each i m) ∙ y.each i m))
 
-pub run_found : (vars : ℕ) (cons : List Constraint) (turns : ℕ) (old now mid new : Search) (left head : ℕ) (result : List Order) → IsRunning vars cons turns old now left → now.path.next ≡ Some head
-    → (left < length old.part.vars → ⊥) → mid.visited ≡ now.visited + 1 → new.visited ≡ mid.visited → mid.part ≡ now.part
-    → ((value : ℕ → Option Order) (nodes : Nodes) → AreNext cons value now.part.vars now.path nodes → IsSolved cons value now.part.vars mid.path nodes)
+pub run_found : (vars : ℕ) (cons : List Constraint) (turns : ℕ) (old now mid new : Search) (left head : ℕ)
+    (result : List Order) → IsRunning vars cons turns old now left → now.path.next ≡ Some head
+    → (left < length old.part.vars → ⊥) → mid.visited ≡ now.visited + 1 → new.visited ≡ mid.visited
+    → mid.part ≡ now.part
+    → ((value : ℕ → Option Order) (nodes : Nodes) → AreNext cons value now.part.vars now.path nodes → IsSolved
+    cons value now.part.vars mid.path nodes)
     → AreValues mid.part.vars mid.path.trail result
-    → ((value : ℕ → Option Order) (part : List ℕ) (nodes : Nodes) → ArePending cons value part mid.path nodes → AreLeft cons value part new.path new.path.next nodes)
-    → (value : ℕ → Option Order) (nodes : Nodes) → AreLeft cons value old.part.vars old.path old.path.next nodes → IsRun cons value turns old new nodes (Found result)
-run_found vars cons turns old now mid new left head result r at enough stepped still same_part solved values back value nodes are =
+    → ((value : ℕ → Option Order) (part : List ℕ) (nodes : Nodes) → ArePending cons value part mid.path nodes
+    → AreLeft cons value part new.path new.path.next nodes)
+    → (value : ℕ → Option Order) (nodes : Nodes)
+    → AreLeft cons value old.part.vars old.path old.path.next nodes
+    → IsRun cons value turns old new nodes (Found result)
+run_found vars cons turns old now mid new left head result r at enough stepped still same_part solved values
+    back value nodes are =
     let g = r.gone value nodes are in
     let part : now.part.vars ≡ old.part.vars = ap (λ (p : Part). p.vars) r.same.part in
     let next = next_of cons value old.part.vars now.path now.path.next head g.later at g.left in
-    let s = subst (λ vs. AreNext cons value vs now.path g.later → IsSolved cons value vs mid.path g.later) part (solved value g.later) next in
-    let mine : AreValues old.part.vars mid.path.trail result = subst (λ vs. AreValues vs mid.path.trail result) (ap (λ (p : Part). p.vars) same_part ∙ part) values in
+    let s = subst (λ vs. AreNext cons value vs now.path g.later → IsSolved cons value vs mid.path g.later)
+    part (solved value g.later) next in
+    let mine : AreValues old.part.vars mid.path.trail
+    result = subst (λ vs. AreValues vs mid.path.trail result) (ap (λ (p : Part). p.vars) same_part ∙ part)
+    values in
     let e : s.values ≡ result = same_values old.part.vars mid.path.trail s.values result s.are_values mine in
     record {
       steps = r.steps + 1;
@@ -75,9 +92,11 @@ run_found vars cons turns old now mid new left head result r at enough stepped s
       };
     }
 
-pub run_on : (vars : ℕ) (cons : List Constraint) (turns : ℕ) (old now mid : Search) (left head : ℕ) → IsRunning vars cons turns old now left → now.path.next ≡ Some head → (left < length old.part.vars → ⊥)
+pub run_on : (vars : ℕ) (cons : List Constraint) (turns : ℕ) (old now mid : Search) (left head : ℕ)
+    → IsRunning vars cons turns old now left → now.path.next ≡ Some head → (left < length old.part.vars → ⊥)
     → IsSearch vars cons mid → IsSameSearch now mid → mid.visited ≡ now.visited + 1
-    → ((value : ℕ → Option Order) (nodes : Nodes) → AreNext cons value now.part.vars now.path nodes → IsPassed cons value now.part.vars mid.path nodes)
+    → ((value : ℕ → Option Order) (nodes : Nodes) → AreNext cons value now.part.vars now.path nodes → IsPassed
+    cons value now.part.vars mid.path nodes)
     → IsRunning vars cons turns old mid (left - length old.part.vars)
 run_on vars cons turns old now mid left head r at enough search same stepped passed = record {
   search = search;
@@ -89,20 +108,26 @@ run_on vars cons turns old now mid left head r at enough search same stepped pas
       let g = r.gone value nodes are in
       let part : now.part.vars ≡ old.part.vars = ap (λ (p : Part). p.vars) r.same.part in
       let next = next_of cons value old.part.vars now.path now.path.next head g.later at g.left in
-      let s = subst (λ vs. AreNext cons value vs now.path g.later → IsPassed cons value vs mid.path g.later) part (passed value g.later) next in
+      let s = subst (λ vs. AreNext cons value vs now.path g.later → IsPassed cons value vs mid.path g.later)
+      part (passed value g.later) next in
       record {
         later = s.later;
         left = s.left;
-        are = g.are ∙ ap (λ ns. idle r.steps ++ ns) s.are ∙ sym (append_assoc (idle r.steps) (None ∷ []) s.later) ∙ ap (λ ns. ns ++ s.later) (replicate_more r.steps None);
+        are = g.are ∙ ap (λ ns. idle r.steps ++ ns) s.are
+            ∙ sym (append_assoc (idle r.steps) (None ∷ []) s.later)
+            ∙ ap (λ ns. ns ++ s.later) (replicate_more r.steps None);
       };
 }
 
 -- the turns of one node more
-pub run_room : (vars : ℕ) (cons : List Constraint) (turns : ℕ) (old now : Search) (left : ℕ) → IsRunning vars cons turns old now left → (left < length old.part.vars → ⊥) → length old.part.vars * old.visited + turns < 2 ^ 64
+pub run_room : (vars : ℕ) (cons : List Constraint) (turns : ℕ) (old now : Search) (left : ℕ)
+    → IsRunning vars cons turns old now left → (left < length old.part.vars → ⊥)
+    → length old.part.vars * old.visited + turns < 2 ^ 64
     → length now.part.vars * (now.visited + 1) < 2 ^ 64
 run_room vars cons turns old now left r enough few =
     let cost = length old.part.vars in
     let here : length now.part.vars ≡ cost = ap (λ (p : Part). length p.vars) r.same.part in
     let one : cost * (now.visited + 1) ≡ cost * now.visited + cost = times_more cost now.visited in
-    let all : cost * now.visited ≡ cost * old.visited + cost * r.steps = ap (λ n. cost * n) r.counted ∙ mul-add cost old.visited r.steps in
+    let all : cost * now.visited ≡ cost * old.visited + cost * r.steps = ap (λ n. cost * n) r.counted
+    ∙ mul-add cost old.visited r.steps in
     subst (λ c. c * (now.visited + 1) < 2 ^ 64) (sym here) (omega (arith, one, all, r.paid, enough, few))

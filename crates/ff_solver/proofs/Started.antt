@@ -26,7 +26,8 @@ use Rattle.ff_solver.proofs.Existing.{tree_of}
 use Rattle.ff_solver.proofs.Listing.{solutions_found}
 
 -- the fields of a search at the root
-pub record IsRoot (vars : ℕ) (cons : List Constraint) (fs : List (Option Fact)) (part : List ℕ) (s : Search) : Type 0 where
+pub record IsRoot (vars : ℕ) (cons : List Constraint) (fs : List (Option Fact)) (part : List ℕ)
+    (s : Search) : Type 0 where
   pub few : vars < 2 ^ 32
   pub facts : s.facts ≡ fs
   pub part_is : s.part.vars ≡ part
@@ -41,7 +42,9 @@ pub record IsRoot (vars : ℕ) (cons : List Constraint) (fs : List (Option Fact)
   pub values : (v : ℕ) → v < vars → value_in s.path.trail.values.list.items v ≡ value_at fs v
 
 -- what is known at the root
-known_root : (vars : ℕ) (cons : List Constraint) (gs : List Given) (fs : List (Option Fact)) (part : List ℕ) (s : Search) → ClosesTo vars cons gs (Board fs) → IsRoot vars cons fs part s → (v : ℕ) → known s.path.trail v ≡ value_at fs v
+known_root : (vars : ℕ) (cons : List Constraint) (gs : List Given) (fs : List (Option Fact)) (part : List ℕ)
+    (s : Search) → ClosesTo vars cons gs (Board fs) → IsRoot vars cons fs part s → (v : ℕ)
+    → known s.path.trail v ≡ value_at fs v
 known_root vars cons gs fs part s board root v = elim (cases_order v vars) [
   | inl e ↦ past (omega (arith, e))
   | inr o ↦ elim o [
@@ -51,9 +54,11 @@ known_root vars cons gs fs part s board root v = elim (cases_order v vars) [
 ]
   where
     past : vars ≤ v → known s.path.trail v ≡ value_at fs v
-    past l = get_or_past s.path.trail.values.list.items v None (omega (arith, root.wide, l)) ∙ sym (ap seen (get_or_past fs v None (omega (arith, board.0.wide, l))))
+    past l = get_or_past s.path.trail.values.list.items v None (omega (arith, root.wide, l))
+        ∙ sym (ap seen (get_or_past fs v None (omega (arith, board.0.wide, l))))
 
-root_path : (vars : ℕ) (cons : List Constraint) (fs : List (Option Fact)) (part : List ℕ) (s : Search) → IsRoot vars cons fs part s → IsPath vars cons s.path
+root_path : (vars : ℕ) (cons : List Constraint) (fs : List (Option Fact)) (part : List ℕ) (s : Search)
+    → IsRoot vars cons fs part s → IsPath vars cons s.path
 root_path vars cons fs part s root = record {
   trail = record {
     few = root.few;
@@ -62,18 +67,21 @@ root_path vars cons fs part s root = record {
     count = omega (arith, ap length root.trail);
     trailed = λ i l. absurd (omega (arith, l, ap length root.trail));
   };
-  marks = subst (λ ms. AreMarks cons s.path.trail (length s.path.trail.vars.items) (reverse ms)) (sym root.branches) tt;
+  marks = subst (λ ms. AreMarks cons s.path.trail (length s.path.trail.vars.items) (reverse ms))
+      (sym root.branches) tt;
   room = root.branches_room;
 }
 
 -- the facts and part of the record are those of the search
-pub record IsInAs (cons : List Constraint) (s : Search) (tree : Tree) (fs : List (Option Fact)) (part : List ℕ) : Type 0 where
+pub record IsInAs (cons : List Constraint) (s : Search) (tree : Tree) (fs : List (Option Fact))
+    (part : List ℕ) : Type 0 where
   pub is_tree : IsTree cons (value_at fs) part tree
   pub within : s.visited ≤ length (visits tree)
   pub left : AreLeft cons (value_at fs) part s.path s.path.next (drop s.visited (visits tree))
   pub solutions : found (visits tree) ≡ solutions_of cons (value_at fs) part
 
-pub started : (vars : ℕ) (cons : List Constraint) (gs : List Given) (fs : List (Option Fact)) (part : List ℕ) (s : Search) → AreFit vars cons → ClosesTo vars cons gs (Board fs) → IsPart vars cons (value_at fs) part
+pub started : (vars : ℕ) (cons : List Constraint) (gs : List Given) (fs : List (Option Fact)) (part : List ℕ)
+    (s : Search) → AreFit vars cons → ClosesTo vars cons gs (Board fs) → IsPart vars cons (value_at fs) part
     → IsRoot vars cons fs part s → StandsAt vars cons s
 started vars cons gs fs part s fit board is root =
     let quiet : IsQuiet cons (value_at fs) = closure_quiet cons (Gives gs) (value_at fs) board.1 in
@@ -82,7 +90,8 @@ started vars cons gs fs part s fit board is root =
     let tree = tree_of vars cons (value_at fs) fit part within in
     let node : IsAtNode cons (value_at fs) [] (known s.path.trail) = record {
       inside = λ v t e set closed. closed.base_held v t (inl (sym (known_is v) ∙ e));
-      holds = λ v t with_it. elim with_it [ inl e ↦ known_is v ∙ e | inr among ↦ absurd (omega (arith, among.1)) ];
+      holds = λ v t with_it. elim with_it
+          [ inl e ↦ known_is v ∙ e | inr among ↦ absurd (omega (arith, among.1)) ];
     } in
     let next : AreNext cons (value_at fs) part s.path (visits tree.0) = record {
       tried = [];
@@ -93,15 +102,19 @@ started vars cons gs fs part s fit board is root =
       pending = record { trees = []; branches = subst (λ ms. AreBranches cons (value_at fs) part s.path.trail (reverse ms) []) (sym root.branches) tt; are = refl };
       are = sym (append-nil (visits tree.0));
     } in
-    let ready : Ready cons s.path.trail 0 (length cons) = λ c con l at. inr (silent_same con (value_at fs) (known s.path.trail) (λ j m. known_is (term_at con.terms j).var) (λ v t f. quiet c con v t at f)) in
+    let ready : Ready cons s.path.trail 0 (length cons) = λ c con l at.
+    inr (silent_same con (value_at fs) (known s.path.trail) (λ j m. known_is (term_at con.terms j).var)
+    (λ v t f. quiet c con v t at f)) in
     let placed : IsInAs cons s tree.0 fs part = record {
       is_tree = tree.1;
       within = subst (λ n. n ≤ length (visits tree.0)) (sym root.visited) (omega arith);
-      left = subst (λ n. AreLeft cons (value_at fs) part s.path s.path.next (drop n (visits tree.0))) (sym root.visited)
+      left = subst (λ n. AreLeft cons (value_at fs) part s.path s.path.next (drop n (visits tree.0)))
+          (sym root.visited)
           (subst (λ o. AreLeft cons (value_at fs) part s.path o (visits tree.0)) (sym root.next) next);
       solutions = solutions_found vars cons (value_at fs) part fit quiet is tree.0 tree.1;
     } in
-    let mine : IsInAs cons s tree.0 s.facts s.part.vars = subst (λ f. IsInAs cons s tree.0 f s.part.vars) (sym root.facts) (subst (λ vs. IsInAs cons s tree.0 fs vs) (sym root.part_is) placed) in
+    let mine : IsInAs cons s tree.0 s.facts s.part.vars = subst (λ f. IsInAs cons s tree.0 f s.part.vars)
+    (sym root.facts) (subst (λ vs. IsInAs cons s tree.0 fs vs) (sym root.part_is) placed) in
     record {
       search = record {
         path = root_path vars cons fs part s root;

@@ -14,7 +14,8 @@ abbrev pub AreSilent : List Constraint → (ℕ → Option Order) → Type 0
 AreSilent cons f = (c : ℕ) (con : Constraint) → slice_get cons c ≡ Some con → IsSilent f con
 
 -- The values are within the closure of a board's values and those that were tried, and hold these.
-pub record IsAtNode (cons : List Constraint) (value : ℕ → Option Order) (tried : List (ℕ × Order)) (f : ℕ → Option Order) : Type 0 where
+pub record IsAtNode (cons : List Constraint) (value : ℕ → Option Order) (tried : List (ℕ × Order))
+    (f : ℕ → Option Order) : Type 0 where
   pub inside : (v : ℕ) (s : Order) → f v ≡ Some s → AtNode cons (Knows value) tried v s
   pub holds : (v : ℕ) (s : Order) → With (Knows value) tried v s → f v ≡ Some s
 
@@ -29,7 +30,8 @@ pub record IsPath (vars : ℕ) (cons : List Constraint) (p : Path) : Type 0 wher
   pub room : vars ≤ vec_capacity p.branches
 
 -- the tree is below the other value of the variable that was decided at the mark
-pub record IsBranch (cons : List Constraint) (value : ℕ → Option Order) (part : List ℕ) (t : Trail) (m : ℕ) (tree : Tree) : Type 0 where
+pub record IsBranch (cons : List Constraint) (value : ℕ → Option Order) (part : List ℕ) (t : Trail) (m : ℕ)
+    (tree : Tree) : Type 0 where
   pub tried : List (ℕ × Order)
   pub node : IsAtNode cons value tried (cut t m)
   pub below : IsTreeAt cons (Knows value) part ((slice_index t.vars.items m, Above) ∷ tried) tree
@@ -37,7 +39,8 @@ pub record IsBranch (cons : List Constraint) (value : ℕ → Option Order) (par
 -- the trees of the branches that are left, the last first
 abbrev pub AreBranches : List Constraint → (ℕ → Option Order) → List ℕ → Trail → List ℕ → List Tree → Type 0
 AreBranches cons value part t [] [] = Unit {0}
-AreBranches cons value part t (m ∷ marks) (tree ∷ trees) = IsBranch cons value part t m tree × AreBranches cons value part t marks trees
+AreBranches cons value part t (m ∷ marks) (tree ∷ trees) = IsBranch cons value part t m tree
+    × AreBranches cons value part t marks trees
 AreBranches cons value part t _ _ = ⊥
 
 abbrev pub Nodes : Type 0
@@ -49,13 +52,15 @@ nodes_of [] = []
 nodes_of (tree ∷ trees) = visits tree ++ nodes_of trees
 
 -- the nodes of the branches that are left
-pub record ArePending (cons : List Constraint) (value : ℕ → Option Order) (part : List ℕ) (p : Path) (nodes : Nodes) : Type 0 where
+pub record ArePending (cons : List Constraint) (value : ℕ → Option Order) (part : List ℕ) (p : Path)
+    (nodes : Nodes) : Type 0 where
   pub trees : List Tree
   pub branches : AreBranches cons value part p.trail (reverse p.branches.items) trees
   pub are : nodes ≡ nodes_of trees
 
 -- the nodes of the tree below the present node, whose closure is to be made, and those of the branches that are left
-pub record AreNext (cons : List Constraint) (value : ℕ → Option Order) (part : List ℕ) (p : Path) (nodes : Nodes) : Type 0 where
+pub record AreNext (cons : List Constraint) (value : ℕ → Option Order) (part : List ℕ) (p : Path)
+    (nodes : Nodes) : Type 0 where
   pub tried : List (ℕ × Order)
   pub tree : Tree
   pub later : Nodes
@@ -84,13 +89,15 @@ pub record AreValues (part : List ℕ) (t : Trail) (values : List Order) : Type 
   pub each : (j : ℕ) → j < length part → known t (slice_index part j) ≡ Some (slice_index_or values j Below)
 
 -- the node that was visited is no solution
-pub record IsPassed (cons : List Constraint) (value : ℕ → Option Order) (part : List ℕ) (p : Path) (nodes : Nodes) : Type 0 where
+pub record IsPassed (cons : List Constraint) (value : ℕ → Option Order) (part : List ℕ) (p : Path)
+    (nodes : Nodes) : Type 0 where
   pub later : Nodes
   pub left : AreLeft cons value part p p.next later
   pub are : nodes ≡ None ∷ later
 
 -- the node that was visited is a solution
-pub record IsSolved (cons : List Constraint) (value : ℕ → Option Order) (part : List ℕ) (p : Path) (nodes : Nodes) : Type 0 where
+pub record IsSolved (cons : List Constraint) (value : ℕ → Option Order) (part : List ℕ) (p : Path)
+    (nodes : Nodes) : Type 0 where
   pub values : List Order
   pub later : Nodes
   pub are_values : AreValues part p.trail values

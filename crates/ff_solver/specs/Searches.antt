@@ -55,22 +55,27 @@ pub record IsSameSearch (old new : Search) : Type 0 where
   pub part : new.part ≡ old.part
 
 -- the nodes that were left, and those that are left after a number of visits, none of which was a solution
-pub record IsGoneOn (cons : List Constraint) (value : ℕ → Option Order) (old now : Search) (steps : ℕ) (nodes : Nodes) : Type 0 where
+pub record IsGoneOn (cons : List Constraint) (value : ℕ → Option Order) (old now : Search) (steps : ℕ)
+    (nodes : Nodes) : Type 0 where
   pub later : Nodes
   pub left : AreLeft cons value old.part.vars now.path now.path.next later
   pub are : nodes ≡ idle steps ++ later
 
 -- what holds in the midst of a call
-pub record IsRunning (vars : ℕ) (cons : List Constraint) (turns : ℕ) (old now : Search) (left : ℕ) : Type 0 where
-  pub search : IsSearch vars cons now
-  pub same : IsSameSearch old now
-  pub steps : ℕ
-  pub counted : now.visited ≡ old.visited + steps
-  pub paid : left + length old.part.vars * steps ≡ turns
-  pub gone : (value : ℕ → Option Order) (nodes : Nodes) → AreLeft cons value old.part.vars old.path old.path.next nodes → IsGoneOn cons value old now steps nodes
+pub record IsRunning (vars : ℕ) (cons : List Constraint) (turns : ℕ) (old now : Search) (left : ℕ) : Type 0
+  where
+    pub search : IsSearch vars cons now
+    pub same : IsSameSearch old now
+    pub steps : ℕ
+    pub counted : now.visited ≡ old.visited + steps
+    pub paid : left + length old.part.vars * steps ≡ turns
+    pub gone : (value : ℕ → Option Order) (nodes : Nodes)
+        → AreLeft cons value old.part.vars old.path old.path.next nodes
+        → IsGoneOn cons value old now steps nodes
 
 -- the end of a call, in terms of the nodes that are left
-pub record IsRun (cons : List Constraint) (value : ℕ → Option Order) (turns : ℕ) (old new : Search) (nodes : Nodes) (answer : Advance) : Type 0 where
+pub record IsRun (cons : List Constraint) (value : ℕ → Option Order) (turns : ℕ) (old new : Search)
+    (nodes : Nodes) (answer : Advance) : Type 0 where
   pub steps : ℕ
   pub later : Nodes
   pub counted : new.visited ≡ old.visited + steps
@@ -115,7 +120,8 @@ pub record IsAdvance (tree : Tree) (cost turns before after : ℕ) (answer : Adv
 
 -- the same, of whichever tree is the part's
 abbrev pub AdvancesIn : List Constraint → Search → ℕ → Search → Advance → Type 0
-AdvancesIn cons old turns new answer = (tree : Tree) → IsTree cons (value_at old.facts) old.part.vars tree → IsAdvance tree (length old.part.vars) turns old.visited new.visited answer
+AdvancesIn cons old turns new answer = (tree : Tree) → IsTree cons (value_at old.facts) old.part.vars tree
+    → IsAdvance tree (length old.part.vars) turns old.visited new.visited answer
 
 -- a search of the facts and the part that has visited no node
 pub record Starts (facts : List (Option Fact)) (part : List ℕ) (s : Search) : Type 0 where

@@ -37,7 +37,8 @@ pub record IsTrail (vars : ℕ) (t : Trail) : Type 0 where
 
 -- the set of values has all that a constraint forces from it
 abbrev pub IsKept : List Constraint → (ℕ → Order → Bool) → Type 0
-IsKept cons P = (c : ℕ) (con : Constraint) → slice_get cons c ≡ Some con → (v : ℕ) (s : Order) → Forces con.kind con.terms (λ u t. P u t ≡ true) v s → P v s ≡ true
+IsKept cons P = (c : ℕ) (con : Constraint) → slice_get cons c ≡ Some con → (v : ℕ) (s : Order)
+    → Forces con.kind con.terms (λ u t. P u t ≡ true) v s → P v s ≡ true
 
 -- the set has the values of the trail
 abbrev pub Covers : (ℕ → Order → Bool) → Trail → Type 0
@@ -46,8 +47,12 @@ Covers P t = (v : ℕ) (s : Order) → known t v ≡ Some s → P v s ≡ true
 -- the trail grew by values that constraints force
 pub record Grows (cons : List Constraint) (old new : Trail) : Type 0 where
   pub count : length old.vars.items ≤ length new.vars.items
-  pub front : (i : ℕ) → i < length old.vars.items → slice_index new.vars.items i ≡ slice_index old.vars.items i
-  pub changed : (v : ℕ) → (known new v ≡ known old v) ⊎ ((i : ℕ) × (length old.vars.items ≤ i) × (i < length new.vars.items) × (slice_index new.vars.items i ≡ v))
+  pub front : (i : ℕ) → i < length old.vars.items
+      → slice_index new.vars.items i ≡ slice_index old.vars.items i
+  pub changed : (v : ℕ)
+      → (known new v ≡ known old v)
+      ⊎ ((i : ℕ) × (length old.vars.items ≤ i) × (i < length new.vars.items)
+      × (slice_index new.vars.items i ≡ v))
   pub kept : (v : ℕ) (s : Order) → known old v ≡ Some s → known new v ≡ Some s
   pub same : (m : ℕ) → m ≤ length old.vars.items → (v : ℕ) → cut new m v ≡ cut old m v
   pub derived : (P : ℕ → Order → Bool) → IsKept cons P → Covers P old → Covers P new
@@ -60,7 +65,8 @@ pub record IsSet (old : Trail) (v : ℕ) (s : Order) (new : Trail) : Type 0 wher
 
 -- a variable of the terms was decided as the head-th or later
 abbrev pub Waits : Trail → ℕ → List Term → Type 0
-Waits t head ts = (i : ℕ) × (j : ℕ) × (head ≤ i) × (i < length t.vars.items) × (j < length ts) × (slice_index t.vars.items i ≡ (term_at ts j).var)
+Waits t head ts = (i : ℕ) × (j : ℕ) × (head ≤ i) × (i < length t.vars.items) × (j < length ts)
+    × (slice_index t.vars.items i ≡ (term_at ts j).var)
 
 -- what the constraint forces is known
 abbrev pub IsSilent : (ℕ → Option Order) → Constraint → Type 0
@@ -75,7 +81,8 @@ Ready cons t head n = (c : ℕ) (con : Constraint) → c < n → slice_get cons 
 
 -- some constraint has no row that agrees
 abbrev pub IsDead : List Constraint → Trail → Type 0
-IsDead cons t = (c : ℕ) × (con : Constraint) × (slice_get cons c ≡ Some con) × NoneAgrees con.kind con.terms (Knows (known t))
+IsDead cons t = (c : ℕ) × (con : Constraint) × (slice_get cons c ≡ Some con)
+    × NoneAgrees con.kind con.terms (Knows (known t))
 
 -- how the closure of a node ends: all constraints are silent, or one is dead
 abbrev pub Ends : List Constraint → Trail → Bool → Type 0

@@ -5,4 +5,5 @@ use Rattle.ff_parts.specs.Lists.{vars_of}
 use Rattle.ff_parts.proofs.finding.wrap.Given as goal
 
 abbrev pub invariant-loop-list : goal.invariant-loop-list
-invariant-loop-list l = (vars_of l.parts.items ≡ lists_in l.yielded) × (vec_len l.fn.lists ≤ vec_capacity l.parts)
+invariant-loop-list l = (vars_of l.parts.items ≡ lists_in l.yielded)
+    × (vec_len l.fn.lists ≤ vec_capacity l.parts)

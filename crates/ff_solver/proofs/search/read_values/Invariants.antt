@@ -6,4 +6,5 @@ use Rattle.ff_solver.proofs.search.read_values.Given as goal
 
 abbrev pub invariant-loop-k : goal.invariant-loop-k
 invariant-loop-k l = (length l.values.items ≡ l.k) × (length l.part ≤ vec_capacity l.values)
-    × ((j : ℕ) → j < l.k → known l.trail (slice_index l.part j) ≡ Some (slice_index_or l.values.items j Below))
+    × ((j : ℕ) → j < l.k → known l.trail (slice_index l.part j) ≡ Some
+    (slice_index_or l.values.items j Below))
