@@ -11,3 +11,4 @@ pub mod Chained
 pub mod Stands
 pub mod Ends
 pub mod Giving
+pub mod Boards

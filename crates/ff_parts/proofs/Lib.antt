@@ -1,0 +1,6 @@
+pub mod Reaching
+pub mod Following
+pub mod Gathered
+pub mod Beginning
+pub mod Classes
+pub mod Factoring

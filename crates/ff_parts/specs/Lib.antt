@@ -1,0 +1,4 @@
+pub mod Labels
+pub mod Gathers
+pub mod Lists
+pub mod Factors

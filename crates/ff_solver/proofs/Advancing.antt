@@ -1,0 +1,171 @@
+-- A call, in the tree.
+use Rattle.std.proofs.Common.{◌≡◌, ℕ, zero, suc, ◌+◌, ◌<◌, ◌≤◌, true, false, List, [], ◌∷◌, ◌++◌, length, drop, take, refl, sym, ap, ◌∙◌, subst, arith, Option, Some, None}
+use Rattle.std.specs.Option.{is_some}
+use Rattle.std.proofs.Math.Nat.{mul-zero}
+use Rattle.std.proofs.lemmas.List.{append_assoc, append-nil, length-append, length-replicate, drop_at, take_at, drop-drop, length-take-le, take-append-drop}
+use Rattle.std.proofs.lemmas.List.Elements.{filter_map-append}
+use Rattle.ff_tables.specs.declared.orders.Order.{Order}
+use Rattle.ff_tables.specs.declared.terms.Constraint.{Constraint}
+use Rattle.ff_propagate.specs.declared.parts.Part.{Part}
+use Rattle.ff_propagate.specs.declared.facts.Facts.{Facts}
+use Rattle.ff_propagate.specs.Facts.{value_at}
+use Rattle.ff_propagate.specs.Solutions.{solutions_of}
+use Rattle.ff_propagate.specs.Trees.{Tree, IsTree, visits, found, same}
+use Rattle.ff_solver.specs.declared.state.Search.{Search}
+use Rattle.ff_solver.specs.declared.state.Advance.{Advance}
+use Rattle.ff_solver.specs.declared.state.Advance.TheVariants.{Found, Finished, Spent}
+use Rattle.ff_solver.specs.Paths.{AreLeft, AreNext, Nodes}
+use Rattle.ff_solver.specs.Searches.{IsSearch, IsSameSearch, IsRun, Advances, IsIn, StandsAt, IsAdvance, AdvancesIn, idle, solution_in}
+use Rattle.ff_solver.proofs.Running.{visits_some, times_more}
+use Rattle.ff_solver.proofs.Unique.{same_tree}
+
+-- the nodes that a call visits
+record IsFront (before after : Nodes) (steps : ℕ) (answer : Advance) : Type 0 where
+  front : Nodes
+  long : length front ≡ steps
+  are : before ≡ front ++ after
+  solutions : found front ≡ solution_in answer
+
+found_idle : (n : ℕ) → found (idle n) ≡ []
+found_idle zero = refl
+found_idle (suc n) = found_idle n
+
+front_of : (cost turns : ℕ) (before after : Nodes) (steps : ℕ) (answer : Advance)
+    → Advances cost turns before after steps answer → IsFront before after steps answer
+front_of cost turns before after steps (Found values) a = record {
+  front = idle a.earlier ++ Some values ∷ [];
+  long = length-append (idle a.earlier) (Some values ∷ []) ∙ ap (λ n. n + 1) (length-replicate a.earlier None)
+      ∙ sym a.counted;
+  are = a.nodes ∙ sym (append_assoc (idle a.earlier) (Some values ∷ []) after);
+  solutions = filter_map-append same (idle a.earlier) (Some values ∷ [])
+      ∙ ap (λ ls. ls ++ values ∷ []) (found_idle a.earlier);
+}
+front_of cost turns before after steps Finished a = record {
+  front = idle steps;
+  long = length-replicate steps None;
+  are = a.nodes ∙ sym (append-nil (idle steps)) ∙ ap (λ ns. idle steps ++ ns) (sym a.ended);
+  solutions = found_idle steps;
+}
+front_of cost turns before after steps Spent a = record {
+  front = idle steps;
+  long = length-replicate steps None;
+  are = a.nodes;
+  solutions = found_idle steps;
+}
+
+-- what a call does in the tree
+pub record IsDone (cons : List Constraint) (old new : Search) (turns : ℕ) (tree : Tree)
+    (answer : Advance) : Type 0 where
+  pub is_in : IsIn cons new tree
+  pub advance : IsAdvance tree (length old.part.vars) turns old.visited new.visited answer
+
+pub done_in : (cons : List Constraint) (turns : ℕ) (old new : Search) (tree : Tree) (answer : Advance)
+    → IsIn cons old tree → IsSameSearch old new
+    → IsRun cons (value_at old.facts) turns old new (drop old.visited (visits tree)) answer
+    → IsDone cons old new turns tree answer
+done_in cons turns old new tree answer is same_search run =
+    let f = front_of (length old.part.vars) turns (drop old.visited (visits tree)) run.later run.steps answer
+    run.advances in
+    let vis = visits tree in
+    let rest : run.later ≡ drop new.visited vis =
+    sym (ap (λ n. drop n vis) run.counted ∙ sym (drop-drop run.steps old.visited vis) ∙ ap (drop run.steps)
+    f.are ∙ drop_at f.front run.later run.steps f.long) in
+    let whole : vis ≡ (take old.visited vis ++ f.front) ++ run.later =
+    sym (take-append-drop old.visited vis) ∙ ap (λ ns. take old.visited vis ++ ns) f.are
+    ∙ sym (append_assoc (take old.visited vis) f.front run.later) in
+    let long : length (take old.visited vis ++ f.front) ≡ new.visited =
+    length-append (take old.visited vis) f.front
+    ∙ ap (λ n. n + length f.front) (length-take-le old.visited vis is.within)
+    ∙ ap (λ n. old.visited + n) f.long ∙ sym run.counted in
+    let facts : value_at new.facts ≡ value_at old.facts = ap (λ (fs : Facts). value_at fs) same_search.facts
+    in
+    let part : new.part.vars ≡ old.part.vars = ap (λ (p : Part). p.vars) same_search.part in
+    record {
+      is_in = record {
+        is_tree = subst (λ value. IsTree cons value new.part.vars tree) (sym facts)
+            (subst (λ vs. IsTree cons (value_at old.facts) vs tree) (sym part) is.is_tree);
+        within = subst (λ n. n ≤ length vis) long
+            (omega (arith, ap length whole, length-append (take old.visited vis ++ f.front) run.later));
+        left = subst (λ ns. AreLeft cons (value_at new.facts) new.part.vars new.path new.path.next ns) rest
+            (subst (λ value. AreLeft cons value new.part.vars new.path new.path.next run.later) (sym facts)
+            (subst (λ vs. AreLeft cons (value_at old.facts) vs new.path new.path.next run.later)
+            (sym part) run.left));
+        solutions = is.solutions ∙ ap (λ value. solutions_of cons value old.part.vars) (sym facts)
+            ∙ ap (solutions_of cons (value_at new.facts)) (sym part);
+      };
+      advance = record {
+        steps = run.steps;
+        counted = run.counted;
+        advances = subst (λ ns. Advances (length old.part.vars) turns (drop old.visited vis) ns run.steps answer) rest run.advances;
+        solutions = ap found
+            (ap (take new.visited) whole ∙ take_at (take old.visited vis ++ f.front) run.later new.visited
+            long)
+            ∙ filter_map-append same (take old.visited vis) f.front
+            ∙ ap (λ ls. found (take old.visited vis) ++ ls) f.solutions;
+      };
+    }
+
+pub advanced : (vars : ℕ) (cons : List Constraint) (turns : ℕ) (old new : Search) (answer : Advance)
+    → StandsAt vars cons old → IsSearch vars cons new → IsSameSearch old new
+    → ((value : ℕ → Option Order) (nodes : Nodes) → AreLeft cons value old.part.vars old.path old.path.next
+    nodes → IsRun cons value turns old new nodes answer)
+    → StandsAt vars cons new × AdvancesIn cons old turns new answer
+advanced vars cons turns old new answer at search same_search run =
+    let d = done_in cons turns old new at.tree answer at.is_in same_search
+    (run (value_at old.facts) (drop old.visited (visits at.tree)) at.is_in.left) in (
+      record { search = search; tree = at.tree; is_in = d.is_in },
+      λ tree is. subst (λ t. IsAdvance t (length old.part.vars) turns old.visited new.visited answer)
+          (same_tree cons (λ v s. value_at old.facts v ≡ Some s) old.part.vars [] at.tree tree
+          at.is_in.is_tree is) d.advance,
+    )
+
+-- a search whose tree has ended
+pub stays_finished : (vars : ℕ) (cons : List Constraint) (turns : ℕ) (s : Search) → StandsAt vars cons s
+    → s.path.next ≡ None → AdvancesIn cons s turns s Finished
+stays_finished vars cons turns s at
+    ended = (advanced vars cons turns s s Finished at at.search (record { facts = refl; part = refl }) (λ value nodes left. record {
+      steps = 0;
+      later = nodes;
+      counted = omega arith;
+      left = left;
+      advances = record { nodes = none value nodes left; ended = none value nodes left; covered = subst (λ n. n ≤ turns) (sym (mul-zero (length s.part.vars))) (omega arith) };
+    })).1
+  where
+    none : (value : ℕ → Option Order) (nodes : Nodes)
+        → AreLeft cons value s.part.vars s.path s.path.next nodes → nodes ≡ []
+    none value nodes left = subst (λ o. AreLeft cons value s.part.vars s.path o nodes) ended left
+
+some_next : (o : Option ℕ) → (o ≡ None → ⊥) → (head : ℕ) × (o ≡ Some head)
+some_next None some = absurd (some refl)
+some_next (Some head) some = (head, refl)
+
+-- a search whose tree goes on, with turns that don't cover a node
+pub stays_spent : (vars : ℕ) (cons : List Constraint) (turns : ℕ) (s : Search) → StandsAt vars cons s
+    → (s.path.next ≡ None → ⊥) → turns < length s.part.vars → AdvancesIn cons s turns s Spent
+stays_spent vars cons turns s at goes_on
+    short = (advanced vars cons turns s s Spent at at.search (record { facts = refl; part = refl }) (λ value nodes left. record {
+      steps = 0;
+      later = nodes;
+      counted = omega arith;
+      left = left;
+      advances = record {
+        nodes = refl;
+        goes_on = λ e. let next = next value nodes left in visits_some next.tree next.later (sym next.are ∙ e);
+        covered = subst (λ n. n ≤ turns) (sym (mul-zero (length s.part.vars))) (omega arith);
+        not_covered = omega (arith, short, times_more (length s.part.vars) 0, mul-zero (length s.part.vars));
+      };
+    })).1
+  where
+    next : (value : ℕ → Option Order) (nodes : Nodes)
+        → AreLeft cons value s.part.vars s.path s.path.next nodes
+        → AreNext cons value s.part.vars s.path nodes
+    next value nodes left = subst (λ o. AreLeft cons value s.part.vars s.path o nodes)
+        (some_next s.path.next goes_on).1 left
+
+pub no_next : (o : Option ℕ) → is_some o ≡ false → o ≡ None
+no_next None e = refl
+no_next (Some head) e = cc
+
+pub has_next : (o : Option ℕ) → is_some o ≡ true → o ≡ None → ⊥
+has_next None e n = cc
+has_next (Some head) e n = cc

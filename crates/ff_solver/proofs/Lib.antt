@@ -1,0 +1,14 @@
+pub mod Lists
+pub mod Nodes
+pub mod Listing
+pub mod Setting
+pub mod Undoing
+pub mod Visits
+pub mod Branching
+pub mod Inverting
+pub mod Visited
+pub mod Running
+pub mod Existing
+pub mod Unique
+pub mod Advancing
+pub mod Started

@@ -1,0 +1,3 @@
+pub mod Trails
+pub mod Paths
+pub mod Searches

@@ -1,0 +1,13 @@
+//! The solutions of a part, by a tree of tried values.
+#![tactic(auto)]
+
+mod closing;
+mod path;
+mod search;
+mod starting;
+mod state;
+mod trail;
+mod visiting;
+
+pub use starting::start;
+pub use state::{Advance, Search};
