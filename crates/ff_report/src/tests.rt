@@ -1,3 +1,6 @@
+ghost use Rattle.std.specs.Prelude.{ℕ, ◌<◌, length, slice_index, IsTrue};
+ghost use Rattle.ff_report.specs.Heads.{FitFolding};
+
 use crate::{PartOutcome, head_text, part_text, refusal_text};
 use ff_propagate::{Fact, Facts, Part, Reason};
 use ff_tables::{Given, Items, Order, system_of};
@@ -47,6 +50,9 @@ fn each_refusal_has_its_line(rt: HostRuntime) -> Result<(), Fail> {
     Ok(())
 }
 
+const TWO_PANELS: &str =
+    "faces 2 scale 1 pairs 1 constraints 0\nface 0 up 0,0 1,0 1,1 0,1\nface 1 down 1,0 0,0 0,1 1,1\n";
+
 // Two panels of width 1, one over the other.
 fn two_panels(alloc: Global) -> Result<(Faces, Folded, Option<Case>), AllocError> {
     let mut rings = Vec::new(alloc);
@@ -82,30 +88,59 @@ fn two_panels(alloc: Global) -> Result<(Faces, Folded, Option<Case>), AllocError
     Ok((faces, folded, case))
 }
 
+// Whether the vertices are below `n`.
+fn are_below(ring: &[u32], n: usize) -> bool
+    ensures { IsTrue result → (i : ℕ) → i < length ring.now → slice_index ring.now i < n }
+{
+    for i in 0..ring.len() {
+        if n <= ring[i] as usize {
+            return false;
+        }
+    }
+    true
+}
+
+// Whether there is a flag for each face and a point for each corner.
+fn fits(faces: &Faces, folded: &Folded) -> bool
+    ensures { IsTrue result → FitFolding faces.now folded.now }
+{
+    let rings = faces.rings.as_slice();
+    if folded.up.as_slice().len() != rings.len() {
+        return false;
+    }
+    for f in 0..rings.len() {
+        if !are_below(rings[f].as_slice(), folded.points.as_slice().len()) {
+            return false;
+        }
+    }
+    true
+}
+
 #[test]
 fn a_head_counts_faces_and_pairs(rt: HostRuntime) -> Result<(), Fail> {
     let alloc = rt.alloc();
     let (faces, folded, case) = two_panels(alloc)?;
     let case = case.expect(&rt, "a case");
+    assert!(rt; fits(&faces, &folded));
     let fact = Fact {
         value: Order::Above,
         level: 0,
         reason: Reason::Given(0),
     };
-    let above = Facts::of(items(alloc, &[Some(fact)])?);
-    let open = Facts::of(items(alloc, &[None])?);
-    let faces_lines =
-        "faces 2 scale 1 pairs 1 constraints 0\nface 0 up 0,0 1,0 1,1 0,1\nface 1 down 1,0 0,0 0,1 1,1\n";
-    let rows = [
-        (None, ""),
-        (Some(&above), "pair 0 0 1 above\n"),
-        (Some(&open), "pair 0 0 1 undecided\n"),
-    ];
-    for (facts, pair_line) in rows {
-        let text = head_text(alloc, &faces, &folded, &case, facts)?;
-        let whole = format!(in alloc; "{faces_lines}{pair_line}")?;
-        assert_eq!(rt; text.as_str(), whole.as_str());
-    }
+    let list = items(alloc, &[Some(fact)])?;
+    assert!(rt; list.as_slice().len() == case.pairs.count());
+    let above = Facts::of(list);
+    let list = items(alloc, &[None])?;
+    assert!(rt; list.as_slice().len() == case.pairs.count());
+    let open = Facts::of(list);
+    let clash = head_text(alloc, &faces, &folded, &case, None)?;
+    let decided = head_text(alloc, &faces, &folded, &case, Some(&above))?;
+    let undecided = head_text(alloc, &faces, &folded, &case, Some(&open))?;
+    assert_eq!(rt; clash.as_str(), TWO_PANELS);
+    let text = format!(in alloc; "{TWO_PANELS}pair 0 0 1 above\n")?;
+    assert_eq!(rt; decided.as_str(), text.as_str());
+    let text = format!(in alloc; "{TWO_PANELS}pair 0 0 1 undecided\n")?;
+    assert_eq!(rt; undecided.as_str(), text.as_str());
     Ok(())
 }
 
