@@ -1,125 +1,143 @@
 -- The answer to words and input is one.
-use Rattle.std.proofs.Common.{◌≡◌, ◌<◌, ◌≤◌, ◌⊎◌, inl, inr, ◌∙◌, ℕ, List, length, refl, ap, sym, subst, arith}
-use Rattle.ff_top.specs.Answer.{IsAnswer, solve_words}
-use Rattle.ff_whole.specs.Convex.{AreApart, IsConvex}
-use Rattle.ff_types.specs.declared.patterns.EdgeEnds.{EdgeEnds}
-use Rattle.ff_read.specs.Read.{RefusesBytes}
-use Rattle.ff_read.proofs.OneReading.{reading_is_one}
-use Rattle.ff_top.specs.Plain.{AreRing, AreBorder, IsPlain}
-use Rattle.ff_top.specs.Sheet.{IsRefused, SpellsSheet, SpellsOther}
-use Rattle.ff_top.specs.Texts.{report}
-use Rattle.ff_report.specs.Refusals.{refusal_line}
+use Rattle.std.proofs.Common.{◌≡◌, ◌<◌, ◌⊎◌, inl, inr, ◌∙◌, ℕ, List, length, Option, Some, None, refl, ap, sym, subst, arith}
 use Rattle.ff_types.specs.declared.limits.TheConstants.{MOST_BYTES}
 use Rattle.ff_types.specs.declared.patterns.Pattern.{Pattern}
+use Rattle.ff_types.specs.declared.faces.Faces.{Faces}
+use Rattle.ff_types.specs.declared.faces.Folded.{Folded}
+use Rattle.ff_types.specs.declared.cases.Case.{Case}
 use Rattle.ff_types.specs.declared.refusals.Refusal.{Refusal}
-use Rattle.ff_types.specs.declared.refusals.Refusal.TheVariants.{TooLong, NotJson, BadKey, BadVertex, FarVertex, BadEdge, BadMark, SamePoint, Crossing, Loose, Rim, Pinch, Reflex, Enclosed, Apart, Parity, Inconsistent, Oversized, TooMany, BadScript, NotYet}
+use Rattle.ff_types.specs.declared.refusals.Refusal.TheVariants.{TooLong}
+use Rattle.ff_read.specs.Read.{IsReadAs, RefusesBytes}
+use Rattle.ff_read.proofs.OneReading.{reading_is_one}
+use Rattle.ff_problem.specs.Problems.{RefusesProblem}
+use Rattle.ff_problem.specs.Laws.{AreSameProblems}
+use Rattle.ff_problem.proofs.OneProblem.{problem_is_one, problems_are_not_refused, problem_refusal_is_one}
+use Rattle.ff_report.specs.Refusals.{refusal_line}
+use Rattle.ff_solve.specs.declared.texts.Last.{Last}
+use Rattle.ff_solve.specs.declared.texts.Last.TheVariants as last
+use Rattle.ff_solve.specs.Reports.{IsReport}
+use Rattle.ff_solve.proofs.OneReport.{one_report}
+use Rattle.ff_top.specs.Texts.{usage_line}
+use Rattle.ff_top.specs.Asking.{budget_in, AsksSolve}
+use Rattle.ff_top.specs.Solving.{ReadsProblem, ReadsRefused, IsRefused, IsSolved, AnswersSolve, status_of}
+use Rattle.ff_top.specs.Answer.{IsAnswer, AnswersTo}
 use Rattle.ff_top.specs.declared.status.Status.{Status}
 use Rattle.ff_top.specs.declared.status.Status.TheVariants.{Done, Impossible, Refused, Unfinished, ReadFault, WriteFault, NoMemory, Usage}
+use Rattle.ff_top.proofs.SamePatterns.{problem_there, refused_there}
 
--- too many bytes, or a pattern that is no plain sheet, or what reading refuses
-pub Reasons : List ℕ → Refusal → Type 0
-Reasons input r = ((MOST_BYTES < length input) × (r ≡ TooLong)) ⊎ ((length input ≤ MOST_BYTES) × ((SpellsOther input × (r ≡ NotYet)) ⊎ RefusesBytes input r))
+-- ---- refusals
 
-reasons : (input : List ℕ) (r : Refusal) → IsRefused input r → Reasons input r
-unfolding Reasons
-reasons input TooLong h = inl (h, refl)
-reasons input NotYet h = inr (h.0, inl (h.1, refl))
-reasons input NotJson h = inr (h.0, inr h.1)
-reasons input (BadKey k) h = inr (h.0, inr h.1)
-reasons input (BadVertex v) h = inr (h.0, inr h.1)
-reasons input (FarVertex v) h = inr (h.0, inr h.1)
-reasons input (BadEdge e) h = inr (h.0, inr h.1)
-reasons input (BadMark e) h = inr (h.0, inr h.1)
-reasons input (SamePoint v) h = inr (h.0, inr h.1)
-reasons input (Crossing e k) h = inr (h.0, inr h.1)
-reasons input (Loose v) h = inr (h.0, inr h.1)
-reasons input (Rim e) h = inr (h.0, inr h.1)
-reasons input (Pinch v) h = inr (h.0, inr h.1)
-reasons input (Reflex v) h = inr (h.0, inr h.1)
-reasons input (Enclosed v) h = inr (h.0, inr h.1)
-reasons input (Apart f) h = inr (h.0, inr h.1)
-reasons input (Parity e) h = inr (h.0, inr h.1)
-reasons input (Inconsistent v) h = inr (h.0, inr h.1)
-reasons input (Oversized v) h = inr (h.0, inr h.1)
-reasons input (TooMany w n) h = inr (h.0, inr h.1)
-reasons input (BadScript w n) h = inr (h.0, inr h.1)
+refused_as : (input : List ℕ) (p q : Pattern) (r : Refusal) → IsReadAs input p → IsReadAs input q → RefusesProblem p r → RefusesProblem q r
+refused_as input p q r a b h = let e = reading_is_one.pattern input p q a b in refused_there p q e.0 e.1 e.2 r h
 
--- a plain sheet by its lists
-plain_same : (p q : Pattern) → (p.points ≡ q.points) × (p.edges ≡ q.edges) × (p.marks ≡ q.marks) → IsPlain p → IsPlain q
-plain_same p q e h = record {
-  ring = subst (λ (n : ℕ). AreRing n q.edges) (ap length e.0) (subst (λ (es : List EdgeEnds). AreRing (length p.points) es) e.1 h.ring);
-  border = subst AreBorder e.2 h.border;
-  apart = subst AreApart e.0 h.apart;
-  convex = subst IsConvex e.0 h.convex;
-}
-
-one_inner : (input : List ℕ) (q r : Refusal) → (SpellsOther input × (q ≡ NotYet)) ⊎ RefusesBytes input q → (SpellsOther input × (r ≡ NotYet)) ⊎ RefusesBytes input r → q ≡ r
-one_inner input q r (inl a) (inl b) = a.1 ∙ sym b.1
-one_inner input q r (inl a) (inr b) = absurd (reading_is_one.not_both input a.0.pattern r a.0.read b)
-one_inner input q r (inr a) (inl b) = absurd (reading_is_one.not_both input b.0.pattern q b.0.read a)
-one_inner input q r (inr a) (inr b) = reading_is_one.refusal input q r a b
-
-one_reason : (input : List ℕ) (q r : Refusal) → Reasons input q → Reasons input r → q ≡ r
-unfolding Reasons
-one_reason input q r (inl a) (inl b) = a.1 ∙ sym b.1
-one_reason input q r (inl a) (inr b) = absurd (omega (arith, a.0, b.0))
-one_reason input q r (inr a) (inl b) = absurd (omega (arith, a.0, b.0))
-one_reason input q r (inr a) (inr b) = one_inner input q r a.1 b.1
+one_inner : (input : List ℕ) (q r : Refusal) → RefusesBytes input q ⊎ ReadsRefused input q → RefusesBytes input r ⊎ ReadsRefused input r → q ≡ r
+one_inner input q r (inl a) (inl b) = reading_is_one.refusal input q r a b
+one_inner input q r (inl a) (inr b) = absurd (reading_is_one.not_both input b.pattern q b.read a)
+one_inner input q r (inr a) (inl b) = absurd (reading_is_one.not_both input a.pattern r a.read b)
+one_inner input q r (inr a) (inr b) = problem_refusal_is_one b.pattern q r (refused_as input a.pattern b.pattern q a.read b.read a.refused) b.refused
 
 one_refusal : (input : List ℕ) (q r : Refusal) → IsRefused input q → IsRefused input r → q ≡ r
-one_refusal input q r a b = one_reason input q r (reasons input q a) (reasons input r b)
+one_refusal input q r (inl a) (inl b) = a.1 ∙ sym b.1
+one_refusal input q r (inl a) (inr b) = absurd (omega (arith, a.0, b.0))
+one_refusal input q r (inr a) (inl b) = absurd (omega (arith, a.0, b.0))
+one_refusal input q r (inr a) (inr b) = one_inner input q r a.1 b.1
 
-not_inner : (input : List ℕ) (r : Refusal) (p : Pattern) → (SpellsOther input × (r ≡ NotYet)) ⊎ RefusesBytes input r → SpellsSheet input p → ⊥
-not_inner input r p (inl a) s = a.0.other (plain_same p a.0.pattern (reading_is_one.pattern input p a.0.pattern s.read a.0.read) s.plain)
-not_inner input r p (inr a) s = reading_is_one.not_both input p r s.read a
+not_inner : (input : List ℕ) (r : Refusal) (faces : Faces) (folded : Folded) (case : Case) → RefusesBytes input r ⊎ ReadsRefused input r → ReadsProblem input faces folded case → ⊥
+not_inner input r faces folded case (inl a) s = reading_is_one.not_both input s.pattern r s.read a
+not_inner input r faces folded case (inr a) s = problems_are_not_refused s.pattern faces folded case r s.problem (refused_as input a.pattern s.pattern r a.read s.read a.refused)
 
-no_reason : (input : List ℕ) (r : Refusal) (p : Pattern) → Reasons input r → SpellsSheet input p → ⊥
-unfolding Reasons
-no_reason input r p (inl a) s = omega (arith, a.0, s.within)
-no_reason input r p (inr a) s = not_inner input r p a.1 s
+not_refused : (input : List ℕ) (r : Refusal) (faces : Faces) (folded : Folded) (case : Case) → IsRefused input r → ReadsProblem input faces folded case → ⊥
+not_refused input r faces folded case (inl a) s = omega (arith, a.0, s.within)
+not_refused input r faces folded case (inr a) s = not_inner input r faces folded case a.1 s
 
-not_refused : (input : List ℕ) (r : Refusal) (p : Pattern) → IsRefused input r → SpellsSheet input p → ⊥
-not_refused input r p a s = no_reason input r p (reasons input r a) s
+-- ---- reports
 
--- the corners of a sheet are those that the bytes spell
-one_report : (input : List ℕ) (p q : Pattern) → SpellsSheet input p → SpellsSheet input q → report p.points ≡ report q.points
-one_report input p q a b = ap report (reading_is_one.pattern input p q a.read b.read).0
+same_problem : (input : List ℕ) (faces others : Faces) (folded other : Folded) (case second : Case) → ReadsProblem input faces folded case → ReadsProblem input others other second
+    → AreSameProblems faces others folded other case second
+same_problem input faces others folded other case second a b =
+    let e = reading_is_one.pattern input a.pattern b.pattern a.read b.read in
+    problem_is_one b.pattern faces others folded other case second (problem_there a.pattern b.pattern e.0 e.1 e.2 faces folded case a.problem) b.problem
 
-pub one_text : (words : List (List ℕ)) (input : List ℕ) (s t : Status) (x y : List ℕ) → IsAnswer words input s x → IsAnswer words input t y → x ≡ y
-one_text words input Usage Usage x y a b = a.1 ∙ sym b.1
-one_text words input Usage Refused x y a b = absurd (a.0 b.0)
-one_text words input Usage Done x y a b = absurd (a.0 b.0)
-one_text words input Refused Usage x y a b = absurd (b.0 a.0)
-one_text words input Refused Refused x y a b = a.3 ∙ ap refusal_line (one_refusal input a.1 b.1 a.2 b.2) ∙ sym b.3
-one_text words input Refused Done x y a b = absurd (not_refused input a.1 b.1 a.2 b.2)
-one_text words input Done Usage x y a b = absurd (b.0 a.0)
-one_text words input Done Refused x y a b = absurd (not_refused input b.1 a.1 b.2 a.2)
-one_text words input Done Done x y a b = a.3 ∙ one_report input a.1 b.1 a.2 b.2 ∙ sym b.3
-one_text words input Impossible t x y a b = absurd a
-one_text words input Unfinished t x y a b = absurd a
-one_text words input ReadFault t x y a b = absurd a
-one_text words input WriteFault t x y a b = absurd a
-one_text words input NoMemory t x y a b = absurd a
-one_text words input s t x y a b = absurd b
+solved_once : (input : List ℕ) (budget : ℕ) (l m : Last) (x y : List ℕ) → IsSolved input budget l x → IsSolved input budget m y → (l ≡ m) × (x ≡ y)
+solved_once input budget l m x y a b = one_report b.faces b.folded a.case b.case budget l m x y same.alike there b.report where
+  same : AreSameProblems a.faces b.faces a.folded b.folded a.case b.case
+  same = same_problem input a.faces b.faces a.folded b.folded a.case b.case a.reads b.reads
+
+  there : IsReport b.faces b.folded a.case budget l x
+  there = subst (λ (d : Folded). IsReport b.faces d a.case budget l x) same.folded_are (subst (λ (fs : Faces). IsReport fs a.folded a.case budget l x) same.faces_are a.report)
+
+-- ---- answers
+
+-- refused, or solved
+pub Views : ℕ → List ℕ → Status → List ℕ → Type 0
+Views budget input s text = ((s ≡ Refused) × ((r : Refusal) × IsRefused input r × (text ≡ refusal_line r))) ⊎ ((l : Last) × (s ≡ status_of l) × IsSolved input budget l text)
+
+view : (budget : ℕ) (input : List ℕ) (s : Status) (text : List ℕ) → AnswersSolve budget input s text → Views budget input s text
+unfolding Views
+view budget input Refused text h = inl (refl, h)
+view budget input Done text h = inr (last.Done, refl, h)
+view budget input Impossible text h = inr (last.Impossible, refl, h)
+view budget input Unfinished text h = inr (last.Unfinished, refl, h)
+view budget input ReadFault text h = absurd h
+view budget input WriteFault text h = absurd h
+view budget input NoMemory text h = absurd h
+view budget input Usage text h = absurd h
+
+pub one_view : (budget : ℕ) (input : List ℕ) (s t : Status) (x y : List ℕ) → Views budget input s x → Views budget input t y → (s ≡ t) × (x ≡ y)
+unfolding Views
+one_view budget input s t x y (inl (e, (q, a, f))) (inl (d, (r, b, g))) = (e ∙ sym d, f ∙ ap refusal_line (one_refusal input q r a b) ∙ sym g)
+one_view budget input s t x y (inl (e, (q, a, f))) (inr (l, d, b)) = absurd (not_refused input q b.faces b.folded b.case a b.reads)
+one_view budget input s t x y (inr (l, d, b)) (inl (e, (q, a, f))) = absurd (not_refused input q b.faces b.folded b.case a b.reads)
+one_view budget input s t x y (inr (l, d, a)) (inr (m, e, b)) = let o = solved_once input budget l m x y a b in (d ∙ ap status_of o.0 ∙ sym e, o.1)
+
+usage_view : (input : List ℕ) (s : Status) (text : List ℕ) → AnswersTo None input s text → (s ≡ Usage) × (text ≡ usage_line)
+usage_view input Usage text h = (refl, h)
+usage_view input Done text h = absurd h
+usage_view input Impossible text h = absurd h
+usage_view input Refused text h = absurd h
+usage_view input Unfinished text h = absurd h
+usage_view input ReadFault text h = absurd h
+usage_view input WriteFault text h = absurd h
+usage_view input NoMemory text h = absurd h
+
+one_to : (o : Option ℕ) (input : List ℕ) (s t : Status) (x y : List ℕ) → AnswersTo o input s x → AnswersTo o input t y → (s ≡ t) × (x ≡ y)
+one_to None input s t x y a b = let u = usage_view input s x a in let v = usage_view input t y b in (u.0 ∙ sym v.0, u.1 ∙ sym v.1)
+one_to (Some budget) input s t x y a b = one_view budget input s t x y (view budget input s x a) (view budget input t y b)
 
 pub one_status : (words : List (List ℕ)) (input : List ℕ) (s t : Status) (x y : List ℕ) → IsAnswer words input s x → IsAnswer words input t y → s ≡ t
-one_status words input Usage Usage x y a b = refl
-one_status words input Usage Refused x y a b = absurd (a.0 b.0)
-one_status words input Usage Done x y a b = absurd (a.0 b.0)
-one_status words input Refused Usage x y a b = absurd (b.0 a.0)
-one_status words input Refused Refused x y a b = refl
-one_status words input Refused Done x y a b = absurd (not_refused input a.1 b.1 a.2 b.2)
-one_status words input Done Usage x y a b = absurd (b.0 a.0)
-one_status words input Done Refused x y a b = absurd (not_refused input b.1 a.1 b.2 a.2)
-one_status words input Done Done x y a b = refl
-one_status words input Impossible t x y a b = absurd a
-one_status words input Unfinished t x y a b = absurd a
-one_status words input ReadFault t x y a b = absurd a
-one_status words input WriteFault t x y a b = absurd a
-one_status words input NoMemory t x y a b = absurd a
-one_status words input s t x y a b = absurd b
+one_status words input s t x y a b = (one_to (budget_in words) input s t x y a b).0
 
--- the answer to too many bytes
-pub too_long : (words : List (List ℕ)) (input : List ℕ) (s : Status) (text : List ℕ) → words ≡ solve_words → MOST_BYTES < length input → (s ≡ Refused) × (text ≡ refusal_line TooLong)
-    → IsAnswer words input s text
-too_long words input s text w l e = rw e.0 (w, TooLong, l, e.1)
+pub one_text : (words : List (List ℕ)) (input : List ℕ) (s t : Status) (x y : List ℕ) → IsAnswer words input s x → IsAnswer words input t y → x ≡ y
+one_text words input s t x y a b = (one_to (budget_in words) input s t x y a b).1
+
+-- no answer is a fault
+no_fault : (o : Option ℕ) (input : List ℕ) (status : Status) (text : List ℕ) → AnswersTo o input status text → (status ≡ WriteFault) ⊎ (status ≡ ReadFault) → ⊥
+no_fault None input status text a (inl e) = subst (λ (s : Status). AnswersTo None input s text) e a
+no_fault None input status text a (inr e) = subst (λ (s : Status). AnswersTo None input s text) e a
+no_fault (Some budget) input status text a (inl e) = subst (λ (s : Status). AnswersTo (Some budget) input s text) e a
+no_fault (Some budget) input status text a (inr e) = subst (λ (s : Status). AnswersTo (Some budget) input s text) e a
+
+pub not_write_fault : (words : List (List ℕ)) (input : List ℕ) (status : Status) (text : List ℕ) → IsAnswer words input status text → status ≡ WriteFault → ⊥
+not_write_fault words input status text a e = no_fault (budget_in words) input status text a (inl e)
+
+pub not_read_fault : (words : List (List ℕ)) (input : List ℕ) (status : Status) (text : List ℕ) → IsAnswer words input status text → status ≡ ReadFault → ⊥
+not_read_fault words input status text a e = no_fault (budget_in words) input status text a (inr e)
+
+-- ---- the answer by the words
+
+pub usage_answer : (words : List (List ℕ)) (input : List ℕ) (o : Option ℕ) (text : List ℕ) → o ≡ budget_in words → o ≡ None → text ≡ usage_line → IsAnswer words input Usage text
+usage_answer words input o text e n t = subst (λ (b : Option ℕ). AnswersTo b input Usage text) (sym n ∙ e) t
+
+pub solve_answer : (words : List (List ℕ)) (input : List ℕ) (o : Option ℕ) (budget : ℕ) (s : Status) (text : List ℕ) → o ≡ budget_in words → o ≡ Some budget → AnswersSolve budget input s text → IsAnswer words input s text
+solve_answer words input o budget s text e n a = subst (λ (b : Option ℕ). AnswersTo b input s text) (sym n ∙ e) a
+
+pub long_answer : (words : List (List ℕ)) (input : List ℕ) (o : Option ℕ) (budget : ℕ) (s : Status) (text : List ℕ) → o ≡ budget_in words → o ≡ Some budget → MOST_BYTES < length input
+    → (s ≡ Refused) × (text ≡ refusal_line TooLong) → IsAnswer words input s text
+long_answer words input o budget s text e n l h = solve_answer words input o budget s text e n
+    (subst (λ (t : Status). AnswersSolve budget input t text) (sym h.0) (TooLong, inl (l, refl), h.1))
+
+-- words that ask for nothing don't ask for `solve`
+pub asks_none : {A : Type 0} (words : List (List ℕ)) (o : Option ℕ) → o ≡ budget_in words → o ≡ None → AsksSolve words → A
+asks_none {A} words o e n asks = apart (sym n ∙ e ∙ asks.1) where
+  apart : None ≡ Some asks.0 → A
+  apart q = cc

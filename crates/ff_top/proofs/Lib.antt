@@ -1,7 +1,7 @@
-pub mod Apart
-pub mod Lists
-pub mod SheetReports
-pub mod Pieces
-pub mod Answers
-pub mod Runs
-pub mod Totality
+mod Pieces
+mod SamePatterns
+mod Answers
+mod Runs
+mod Reading
+mod Reported
+mod Totality

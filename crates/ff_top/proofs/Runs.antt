@@ -4,7 +4,7 @@ use Rattle.ff_top.specs.Answer.{IsAnswer, IsRun, IsSettled, IsComplete}
 use Rattle.ff_top.specs.Transfer.{Tells, Got, GotFront, GotPart}
 use Rattle.ff_top.specs.declared.status.Status.{Status}
 use Rattle.ff_top.specs.declared.status.Status.TheVariants.{ReadFault, WriteFault, NoMemory}
-use Rattle.ff_top.proofs.Answers.{one_text, one_status}
+use Rattle.ff_top.proofs.Answers.{one_text, one_status, not_write_fault}
 use Rattle.ff_top.proofs.Pieces.{got_nothing, got_front, part_front}
 
 pub some_input : (left : Option (List ℕ)) → (input : List ℕ) × Tells left input
@@ -28,12 +28,12 @@ front_of words input before after answered text a front s y answer = subst (λ (
 
 -- the text was written whole
 pub run_of_answer : (words : List (List ℕ)) (left before after : Option (List ℕ)) (status : Status) (text : List ℕ)
-    → (input : List ℕ) × Tells left input × IsAnswer words input status text → (status ≡ WriteFault → ⊥) → Got before text after → IsRun words left before after status
-run_of_answer words left before after status text a no_write got = record {
+    → (input : List ℕ) × Tells left input × IsAnswer words input status text → Got before text after → IsRun words left before after status
+run_of_answer words left before after status text a got = record {
   input = a.0;
   told = a.1;
   settled = λ h. (text, a.2, got);
-  cut = λ e. absurd (no_write e);
+  cut = λ e. absurd (not_write_fault words a.0 status text a.2 e);
   front = front_of words a.0 before after status text a.2 (got_front before after text got);
 }
 
@@ -47,13 +47,6 @@ run_of_part words left before after answered text a part = record {
   cut = λ e. (answered, text, a.2, part);
   front = front_of words a.0 before after answered text a.2 (part_front before after text part);
 }
-
--- no answer is a fault
-pub not_write_fault : (words : List (List ℕ)) (input : List ℕ) (status : Status) (text : List ℕ) → IsAnswer words input status text → status ≡ WriteFault → ⊥
-not_write_fault words input status text a e = subst (λ (s : Status). IsAnswer words input s text) e a
-
-pub not_read_fault : (words : List (List ℕ)) (input : List ℕ) (status : Status) (text : List ℕ) → IsAnswer words input status text → status ≡ ReadFault → ⊥
-not_read_fault words input status text a e = subst (λ (s : Status). IsAnswer words input s text) e a
 
 -- by status
 settled_or : (words : List (List ℕ)) (input : List ℕ) (before after : Option (List ℕ)) (status : Status) (no_fault : Type 0) (s : Status) (text : List ℕ)

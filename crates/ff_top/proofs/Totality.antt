@@ -1,59 +1,53 @@
--- No words and input are without an answer.
-use Rattle.std.proofs.Common.{◌<◌, ◌≤◌, ◌⊎◌, inl, inr, ℕ, List, length, refl, arith}
-use Rattle.ff_top.specs.Answer.{IsAnswer}
-use Rattle.ff_top.specs.Sheet.{IsRefused, SpellsSheet}
-use Rattle.ff_read.specs.Read.{RefusesBytes}
-use Rattle.ff_read.proofs.OneReading.{reading_is_one}
-use Rattle.ff_top.specs.Texts.{usage_line, report}
-use Rattle.ff_report.specs.Refusals.{refusal_line}
+-- Words and an input without an answer would be of a pattern that folds.
+use Rattle.std.proofs.Common.{◌<◌, ◌≤◌, ◌⊎◌, inl, inr, ℕ, List, length, Option, Some, None, refl, arith}
 use Rattle.ff_types.specs.declared.limits.TheConstants.{MOST_BYTES}
 use Rattle.ff_types.specs.declared.patterns.Pattern.{Pattern}
+use Rattle.ff_types.specs.declared.faces.Faces.{Faces}
+use Rattle.ff_types.specs.declared.faces.Folded.{Folded}
 use Rattle.ff_types.specs.declared.refusals.Refusal.{Refusal}
-use Rattle.ff_types.specs.declared.refusals.Refusal.TheVariants.{TooLong, NotJson, BadKey, BadVertex, FarVertex, BadEdge, BadMark, SamePoint, Crossing, Loose, Rim, Pinch, Reflex, Enclosed, Apart, Parity, Inconsistent, Oversized, TooMany, BadScript, NotYet}
+use Rattle.ff_types.specs.declared.refusals.Refusal.TheVariants.{TooLong}
+use Rattle.ff_types.specs.FoldedPatterns.{IsFoldedPattern}
+use Rattle.ff_planar.specs.Given.{AreGiven}
+use Rattle.ff_planar.proofs.SomeFaces.{not_neither}
+use Rattle.ff_reflect.specs.Sheets.{paper_of}
+use Rattle.ff_reflect.proofs.SomeFoldings.{not_neither as folds_or_not}
+use Rattle.ff_read.specs.Read.{IsReadAs}
+use Rattle.ff_read.proofs.OneReading.{reading_is_one}
+use Rattle.ff_report.specs.Refusals.{refusal_line}
+use Rattle.ff_top.specs.Texts.{usage_line}
+use Rattle.ff_top.specs.Asking.{budget_in}
+use Rattle.ff_top.specs.Solving.{IsRefused}
+use Rattle.ff_top.specs.Answer.{AnswersTo, SomeAnswer}
 use Rattle.ff_top.specs.declared.status.Status.{Status}
-use Rattle.ff_top.specs.declared.status.Status.TheVariants.{Done, Refused, Usage}
+use Rattle.ff_top.specs.declared.status.Status.TheVariants.{Refused, Usage}
 
 longer_or : (m n : ℕ) → (m < n) ⊎ (n ≤ m)
 longer_or m n = grind arith
 
-refused_by : (input : List ℕ) (r : Refusal) → length input ≤ MOST_BYTES → RefusesBytes input r → ((r : Refusal) → IsRefused input r → ⊥) → ⊥
-refused_by input TooLong l h refused = h.2.2
-refused_by input NotJson l h refused = refused NotJson (l, h)
-refused_by input (BadKey k) l h refused = refused (BadKey k) (l, h)
-refused_by input (BadVertex v) l h refused = refused (BadVertex v) (l, h)
-refused_by input (FarVertex v) l h refused = refused (FarVertex v) (l, h)
-refused_by input (BadEdge e) l h refused = refused (BadEdge e) (l, h)
-refused_by input (BadMark e) l h refused = refused (BadMark e) (l, h)
-refused_by input (SamePoint v) l h refused = refused (SamePoint v) (l, h)
-refused_by input (Crossing e k) l h refused = refused (Crossing e k) (l, h)
-refused_by input (Loose v) l h refused = refused (Loose v) (l, h)
-refused_by input (Rim e) l h refused = refused (Rim e) (l, h)
-refused_by input (Pinch v) l h refused = refused (Pinch v) (l, h)
-refused_by input (Reflex v) l h refused = refused (Reflex v) (l, h)
-refused_by input (Enclosed v) l h refused = refused (Enclosed v) (l, h)
-refused_by input (Apart f) l h refused = refused (Apart f) (l, h)
-refused_by input (Parity e) l h refused = refused (Parity e) (l, h)
-refused_by input (Inconsistent v) l h refused = refused (Inconsistent v) (l, h)
-refused_by input (Oversized v) l h refused = refused (Oversized v) (l, h)
-refused_by input (TooMany w n) l h refused = refused (TooMany w n) (l, h)
-refused_by input (BadScript w n) l h refused = refused (BadScript w n) (l, h)
-refused_by input NotYet l h refused = h.2.2
+module _ (input : List ℕ) (within : length input ≤ MOST_BYTES) (refused : (r : Refusal) → IsRefused input r → ⊥)
+    (folds : (p : Pattern) (faces : Faces) (folded : Folded) → IsReadAs input p → IsFoldedPattern p faces folded → ⊥) where
+  given : (p : Pattern) → IsReadAs input p → (faces : Faces) → AreGiven p.points p.edges p.marks faces → ⊥
+  given p read faces g = folds_or_not (paper_of p faces)
+      (λ r h. refused r (inr (within, inr (record { pattern = p; read = read; refused = inr (inl (faces, g, h)) }))))
+      (record { drawing = g.drawing; faces = g.faces_are })
+      (λ scale images up f near. folds p faces (record { scale = scale; points = images; up = up }) read
+      (record { drawing = g.drawing; faces_are = g.faces_are; few_faces = g.few; folding = f; near = near }))
 
-of_bytes : (input : List ℕ) → length input ≤ MOST_BYTES → ((r : Refusal) → IsRefused input r → ⊥) → ((p : Pattern) → SpellsSheet input p → ⊥) → ⊥
-of_bytes input l refused sheet =
-    reading_is_one.some input
-    (λ p read. refused NotYet (l, record { pattern = p; read = read; other = λ plain. sheet p (record { within = l; read = read; plain = plain }) }))
-    (λ r h. refused_by input r l h refused)
+  pattern : (p : Pattern) → IsReadAs input p → ⊥
+  pattern p read = not_neither p.points p.edges p.marks p.valid (given p read) (λ r h. refused r (inr (within, inr (record { pattern = p; read = read; refused = inl h }))))
 
-of_length : (input : List ℕ) → (MOST_BYTES < length input) ⊎ (length input ≤ MOST_BYTES)
-    → ((r : Refusal) → IsRefused input r → ⊥) → ((p : Pattern) → SpellsSheet input p → ⊥) → ⊥
-of_length input (inl l) refused sheet = refused TooLong l
-of_length input (inr l) refused sheet = of_bytes input l refused sheet
+  pub of_bytes : ⊥
+  of_bytes = reading_is_one.some input pattern (λ r h. refused r (inr (within, inl h)))
 
-pub some_answer : (words : List (List ℕ)) (input : List ℕ) → ((s : Status) (text : List ℕ) → IsAnswer words input s text → ⊥) → ⊥
-some_answer words input none =
-    none Usage usage_line (
-      λ solve. of_length input (longer_or MOST_BYTES (length input))
-          (λ r h. none Refused (refusal_line r) (solve, r, h, refl)) (λ p h. none Done (report p.points) (solve, p, h, refl)),
-      refl,
-    )
+of_length : (input : List ℕ) → (MOST_BYTES < length input) ⊎ (length input ≤ MOST_BYTES) → ((r : Refusal) → IsRefused input r → ⊥)
+    → ((p : Pattern) (faces : Faces) (folded : Folded) → IsReadAs input p → IsFoldedPattern p faces folded → ⊥) → ⊥
+of_length input (inl l) refused folds = refused TooLong (inl (l, refl))
+of_length input (inr l) refused folds = of_bytes input l refused folds
+
+by_budget : (o : Option ℕ) (input : List ℕ) → ((s : Status) (text : List ℕ) → AnswersTo o input s text → ⊥)
+    → ((p : Pattern) (faces : Faces) (folded : Folded) → IsReadAs input p → IsFoldedPattern p faces folded → ⊥) → ⊥
+by_budget None input none folds = none Usage usage_line refl
+by_budget (Some budget) input none folds = of_length input (longer_or MOST_BYTES (length input)) (λ r h. none Refused (refusal_line r) (r, h, refl)) folds
+
+pub some_answer : SomeAnswer
+some_answer words input none folds = by_budget (budget_in words) input none folds

@@ -1,32 +1,36 @@
 -- What the program answers and writes. This project's own.
-use Rattle.std.specs.Prelude.{ℕ, ◌≡◌, ◌⊎◌, IfSome, List, [], ◌∷◌, codes, Option}
-use Rattle.ff_top.specs.Texts.{usage_line, report}
-use Rattle.ff_report.specs.Refusals.{refusal_line}
-use Rattle.ff_top.specs.Sheet.{SpellsSheet, IsRefused}
-use Rattle.ff_top.specs.Transfer.{Tells, Got, GotFront, GotPart}
+use Rattle.std.specs.Prelude.{ℕ, ◌≡◌, ◌⊎◌, IfSome, List, Option, Some, None}
 use Rattle.ff_types.specs.declared.patterns.Pattern.{Pattern}
-use Rattle.ff_types.specs.declared.refusals.Refusal.{Refusal}
+use Rattle.ff_types.specs.declared.faces.Faces.{Faces}
+use Rattle.ff_types.specs.declared.faces.Folded.{Folded}
+use Rattle.ff_types.specs.FoldedPatterns.{IsFoldedPattern}
+use Rattle.ff_read.specs.Read.{IsReadAs}
+use Rattle.ff_top.specs.Texts.{usage_line}
+use Rattle.ff_top.specs.Asking.{budget_in}
+use Rattle.ff_top.specs.Solving.{AnswersSolve}
+use Rattle.ff_top.specs.Transfer.{Tells, Got, GotFront, GotPart}
 use Rattle.ff_top.specs.declared.status.Status.{Status}
-use Rattle.ff_top.specs.declared.status.Status.TheVariants.{Done, Refused, ReadFault, WriteFault, NoMemory, Usage}
+use Rattle.ff_top.specs.declared.status.Status.TheVariants.{ReadFault, WriteFault, NoMemory, Usage}
 
--- the one list of words that isn't Usage
-abbrev pub solve_words : List (List ℕ)
-solve_words = codes "solve" ∷ []
+-- the words ask for nothing that is done, or for `solve` within a budget
+abbrev pub AnswersTo : Option ℕ → List ℕ → Status → List ℕ → Type 0
+AnswersTo None input Usage text = text ≡ usage_line
+AnswersTo None input status text = ⊥
+AnswersTo (Some budget) input status text = AnswersSolve budget input status text
 
--- The status and the defined text for these words and this input, status by status.
+-- The status and the defined text for these words and this input.
 abbrev pub IsAnswer : List (List ℕ) → List ℕ → Status → List ℕ → Type 0
-IsAnswer words input Usage text = (words ≡ solve_words → ⊥) × (text ≡ usage_line)
-IsAnswer words input Refused text = (words ≡ solve_words) × (r : Refusal) × IsRefused input r × (text ≡ refusal_line r)
-IsAnswer words input Done text = (words ≡ solve_words) × (p : Pattern) × SpellsSheet input p × (text ≡ report p.points)
-IsAnswer words input status text = ⊥
+IsAnswer words input status text = AnswersTo (budget_in words) input status text
 
 -- The words and an input have one answer.
 abbrev pub OneAnswer : Type 0
 OneAnswer = (words : List (List ℕ)) (input : List ℕ) (s t : Status) (x y : List ℕ) → IsAnswer words input s x → IsAnswer words input t y → (s ≡ t) × (x ≡ y)
 
--- No words and input are without an answer. It is said by what can't be, since no definition decides which answer it is.
+-- Words and an input without an answer would be of a pattern that folds: every other one is refused. It is said by what
+-- can't be, since no definition decides which it is. That a pattern that folds has its answer is shown by each run of it.
 abbrev pub SomeAnswer : Type 0
-SomeAnswer = (words : List (List ℕ)) (input : List ℕ) → ((s : Status) (text : List ℕ) → IsAnswer words input s text → ⊥) → ⊥
+SomeAnswer = (words : List (List ℕ)) (input : List ℕ) → ((s : Status) (text : List ℕ) → IsAnswer words input s text → ⊥)
+    → ((p : Pattern) (faces : Faces) (folded : Folded) → IsReadAs input p → IsFoldedPattern p faces folded → ⊥) → ⊥
 
 -- an answer was prepared: neither a read fault nor want of memory
 abbrev pub IsAnswered : Status → Type 0

@@ -1,6 +1,6 @@
 pub mod Statuses
-pub mod Plain
-pub mod Sheet
 pub mod Texts
 pub mod Transfer
+pub mod Asking
+pub mod Solving
 pub mod Answer

@@ -1,8 +1,8 @@
 //! The program's top call: words, a source and a sink to a status.
 #![tactic(auto)]
 
-pub mod plain;
-pub mod sheets;
+mod asking;
+mod solving;
 pub mod status;
 #[cfg(test)]
 mod tests;

@@ -14,9 +14,77 @@ const UNIT_REPORT: &str =
 const CLOCKWISE: &str =
     "{\"vertices_coords\":[[0,0],[0,1],[1,1],[1,0]],\"edges_vertices\":[[0,1],[1,2],[2,3],[3,0]],\"edges_assignment\":[\"B\",\"B\",\"B\",\"B\"]}";
 
-// The unit square cut along a diagonal.
+// The unit square with a flat diagonal.
 const DIAGONAL: &str =
     "{\"vertices_coords\":[[0,0],[1,0],[1,1],[0,1]],\"edges_vertices\":[[0,1],[1,2],[2,3],[3,0],[0,2]],\"edges_assignment\":[\"B\",\"B\",\"B\",\"B\",\"F\"]}";
+
+// The unit square with a diagonal folded in an unknown direction.
+const CREASED: &str =
+    "{\"vertices_coords\":[[0,0],[1,0],[1,1],[0,1]],\"edges_vertices\":[[0,1],[1,2],[2,3],[3,0],[0,2]],\"edges_assignment\":[\"B\",\"B\",\"B\",\"B\",\"U\"]}";
+
+// Three panels with two valleys.
+const VALLEYS: &str =
+    "{\"vertices_coords\":[[0,0],[1,0],[2,0],[3,0],[0,1],[1,1],[2,1],[3,1]],\"edges_vertices\":[[0,1],[1,2],[2,3],[3,7],[7,6],[6,5],[5,4],[4,0],[1,5],[2,6]],\"edges_assignment\":[\"B\",\"B\",\"B\",\"B\",\"B\",\"B\",\"B\",\"B\",\"V\",\"V\"]}";
+
+// Three panels with a valley and a mountain.
+const ACCORDION: &str =
+    "{\"vertices_coords\":[[0,0],[1,0],[2,0],[3,0],[0,1],[1,1],[2,1],[3,1]],\"edges_vertices\":[[0,1],[1,2],[2,3],[3,7],[7,6],[6,5],[5,4],[4,0],[1,5],[2,6]],\"edges_assignment\":[\"B\",\"B\",\"B\",\"B\",\"B\",\"B\",\"B\",\"B\",\"V\",\"M\"]}";
+
+// A short panel between two long ones that both fold over it.
+const CLASHING: &str =
+    "{\"vertices_coords\":[[0,0],[2,0],[3,0],[5,0],[0,1],[2,1],[3,1],[5,1]],\"edges_vertices\":[[0,1],[1,2],[2,3],[3,7],[7,6],[6,5],[5,4],[4,0],[1,5],[2,6]],\"edges_assignment\":[\"B\",\"B\",\"B\",\"B\",\"B\",\"B\",\"B\",\"B\",\"V\",\"V\"]}";
+
+// Three panels without an assignment.
+const UNASSIGNED: &str =
+    "{\"vertices_coords\":[[0,0],[1,0],[2,0],[3,0],[0,1],[1,1],[2,1],[3,1]],\"edges_vertices\":[[0,1],[1,2],[2,3],[3,7],[7,6],[6,5],[5,4],[4,0],[1,5],[2,6]]}";
+
+// A slanted valley.
+const SLANT: &str =
+    "{\"vertices_coords\":[[0,0],[1,0],[4,0],[4,4],[3,4],[0,4]],\"edges_vertices\":[[0,1],[1,2],[2,3],[3,4],[4,5],[5,0],[1,4]],\"edges_assignment\":[\"B\",\"B\",\"B\",\"B\",\"B\",\"B\",\"V\"]}";
+
+// A valley so steep that the scale would be 1998001.
+const STEEP: &str =
+    "{\"vertices_coords\":[[0,0],[500,0],[2000,0],[2000,1000],[1499,1000],[0,1000]],\"edges_vertices\":[[0,1],[1,2],[2,3],[3,4],[4,5],[5,0],[1,4]],\"edges_assignment\":[\"B\",\"B\",\"B\",\"B\",\"B\",\"B\",\"V\"]}";
+
+// Three creases that meet.
+const THREE: &str =
+    "{\"vertices_coords\":[[0,0],[4,0],[4,4],[2,4],[0,4],[2,2]],\"edges_vertices\":[[0,1],[1,2],[2,3],[3,4],[4,0],[0,5],[1,5],[3,5]],\"edges_assignment\":[\"B\",\"B\",\"B\",\"B\",\"B\",\"U\",\"U\",\"U\"]}";
+
+// Four creases that meet and don't close.
+const FOUR: &str =
+    "{\"vertices_coords\":[[0,0],[4,0],[4,4],[1,4],[0,4],[2,2]],\"edges_vertices\":[[0,1],[1,2],[2,3],[3,4],[4,0],[0,5],[1,5],[2,5],[3,5]],\"edges_assignment\":[\"B\",\"B\",\"B\",\"B\",\"B\",\"U\",\"U\",\"U\",\"U\"]}";
+
+// Two creases that cross.
+const CROSSED: &str =
+    "{\"vertices_coords\":[[0,0],[2,0],[2,2],[0,2]],\"edges_vertices\":[[0,1],[1,2],[2,3],[3,0],[0,2],[1,3]],\"edges_assignment\":[\"B\",\"B\",\"B\",\"B\",\"U\",\"U\"]}";
+
+// A sheet with a reflex corner.
+const ELL: &str =
+    "{\"vertices_coords\":[[0,0],[4,0],[4,2],[2,2],[2,4],[0,4]],\"edges_vertices\":[[0,1],[1,2],[2,3],[3,4],[4,5],[5,0]],\"edges_assignment\":[\"B\",\"B\",\"B\",\"B\",\"B\",\"B\"]}";
+
+const DIAGONAL_REPORT: &str =
+    "faces 2 scale 1 pairs 0 constraints 0\nface 0 up 0,0 1,0 1,1\nface 1 up 0,0 1,1 0,1\nparts 0\ndone\n";
+
+const CREASED_REPORT: &str =
+    "faces 2 scale 1 pairs 1 constraints 0\nface 0 up 0,0 1,0 1,1\nface 1 down 0,0 1,1 1,0\npair 0 0 1 undecided\nparts 1\npart 0 variables 0\nsolutions 2\nsolution 0 -\nsolution 1 +\ndone\n";
+
+const VALLEYS_REPORT: &str =
+    "faces 3 scale 1 pairs 3 constraints 1\nface 0 up 0,0 1,0 1,1 0,1\nface 1 down 1,0 0,0 0,1 1,1\nface 2 up 0,0 1,0 1,1 0,1\npair 0 0 1 below\npair 1 0 2 undecided\npair 2 1 2 above\nparts 1\npart 0 variables 1\nsolutions 2\nsolution 0 -\nsolution 1 +\ndone\n";
+
+const ACCORDION_REPORT: &str =
+    "faces 3 scale 1 pairs 3 constraints 1\nface 0 up 0,0 1,0 1,1 0,1\nface 1 down 1,0 0,0 0,1 1,1\nface 2 up 0,0 1,0 1,1 0,1\npair 0 0 1 below\npair 1 0 2 below\npair 2 1 2 below\nparts 0\ndone\n";
+
+const UNASSIGNED_REPORT: &str =
+    "faces 3 scale 1 pairs 3 constraints 1\nface 0 up 0,0 1,0 1,1 0,1\nface 1 down 1,0 0,0 0,1 1,1\nface 2 up 0,0 1,0 1,1 0,1\npair 0 0 1 undecided\npair 1 0 2 undecided\npair 2 1 2 undecided\nparts 1\npart 0 variables 0 1 2\nsolutions 6\nsolution 0 ---\nsolution 1 --+\nsolution 2 -++\nsolution 3 +--\nsolution 4 ++-\nsolution 5 +++\ndone\n";
+
+const UNFINISHED_REPORT: &str =
+    "faces 3 scale 1 pairs 3 constraints 1\nface 0 up 0,0 1,0 1,1 0,1\nface 1 down 1,0 0,0 0,1 1,1\nface 2 up 0,0 1,0 1,1 0,1\npair 0 0 1 undecided\npair 1 0 2 undecided\npair 2 1 2 undecided\nparts 1\npart 0 variables 0 1 2\nunfinished\nunfinished\n";
+
+const CLASHING_REPORT: &str =
+    "faces 3 scale 1 pairs 3 constraints 3\nface 0 up 0,0 2,0 2,1 0,1\nface 1 down 2,0 1,0 1,1 2,1\nface 2 up 1,0 3,0 3,1 1,1\nclash\nimpossible\n";
+
+const SLANT_REPORT: &str =
+    "faces 2 scale 5 pairs 1 constraints 0\nface 0 up 0,0 5,0 15,20 0,20\nface 1 down 5,0 -4,12 12,24 15,20\npair 0 0 1 below\nparts 0\ndone\n";
 
 // A triangle with a straight corner, far from the origin, in a file with further keys and a repeated one.
 const TRIANGLE: &str =
@@ -33,13 +101,11 @@ const UNMARKED: &str =
 const FAR: &str =
     "{\"vertices_coords\":[[0,0],[1048576,0],[1,1],[0,1]],\"edges_vertices\":[[0,1],[1,2],[2,3],[3,0]],\"edges_assignment\":[\"B\",\"C\",\"B\",\"B\"]}";
 
-const NOT_YET: &str = "refused 0 not yet\n";
-
 const NOT_JSON: &str = "refused 2 not json\n";
 
 const TOO_LONG: &str = "refused 1 too long\n";
 
-const USAGE: &str = "usage: flatfold solve\n";
+const USAGE: &str = "usage: flatfold solve|check|bench|make COUNT [--budget N] [--workers N]\n";
 
 fn words_of(alloc: Global, words: &[&str]) -> Result<Vec<String>, AllocError> {
     let mut list = Vec::new(alloc);
@@ -57,8 +123,31 @@ fn each_input_has_its_answer(rt: HostRuntime) -> Result<(), Fail> {
         (solve, "", Status::Refused, NOT_JSON),
         (solve, UNIT, Status::Done, UNIT_REPORT),
         (solve, TRIANGLE, Status::Done, TRIANGLE_REPORT),
-        (solve, CLOCKWISE, Status::Refused, NOT_YET),
-        (solve, DIAGONAL, Status::Refused, NOT_YET),
+        (solve, CLOCKWISE, Status::Done, UNIT_REPORT),
+        (solve, DIAGONAL, Status::Done, DIAGONAL_REPORT),
+        (solve, CREASED, Status::Done, CREASED_REPORT),
+        (solve, VALLEYS, Status::Done, VALLEYS_REPORT),
+        (solve, ACCORDION, Status::Done, ACCORDION_REPORT),
+        (solve, CLASHING, Status::Impossible, CLASHING_REPORT),
+        (solve, UNASSIGNED, Status::Done, UNASSIGNED_REPORT),
+        (
+            &["solve", "--budget", "33"],
+            UNASSIGNED,
+            Status::Done,
+            UNASSIGNED_REPORT,
+        ),
+        (
+            &["--budget=32", "solve"],
+            UNASSIGNED,
+            Status::Unfinished,
+            UNFINISHED_REPORT,
+        ),
+        (solve, SLANT, Status::Done, SLANT_REPORT),
+        (solve, STEEP, Status::Refused, "refused 18 oversized 2\n"),
+        (solve, THREE, Status::Refused, "refused 16 parity 7\n"),
+        (solve, FOUR, Status::Refused, "refused 17 inconsistent 3\n"),
+        (solve, CROSSED, Status::Refused, "refused 9 crossing 4 5\n"),
+        (solve, ELL, Status::Refused, "refused 13 reflex 1\n"),
         (
             solve,
             "{}",
@@ -70,6 +159,7 @@ fn each_input_has_its_answer(rt: HostRuntime) -> Result<(), Fail> {
         (solve, "[1]", Status::Refused, NOT_JSON),
         (&["fold"], UNIT, Status::Usage, USAGE),
         (&["solve", "solve"], UNIT, Status::Usage, USAGE),
+        (&["check"], UNIT, Status::Usage, USAGE),
         (&[], UNIT, Status::Usage, USAGE),
     ];
     for (words, input, status, text) in rows {

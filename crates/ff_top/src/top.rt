@@ -1,82 +1,38 @@
 //! The top call: words, a source and a sink to a status.
-ghost use Rattle.std.specs.Prelude.{◌≡◌, ◌≤◌, ◌↔◌, ℕ, List, length, map, string_bytes};
-ghost use Rattle.std.specs.Prelude.{IfOk, OnOk, IsTrue, IsErrOf};
+ghost use Rattle.std.specs.Prelude.{◌≡◌, ◌≤◌, ℕ, List, map, string_bytes};
+ghost use Rattle.std.specs.Prelude.{IfOk, OnOk, IsErrOf};
 ghost use Rattle.ff_outside.specs.Streams.{Rose};
 ghost use Rattle.ff_top.specs.Transfer.{Tells, IsReadOff};
-ghost use Rattle.ff_top.specs.Answer.{IsAnswer, IsRun, IsAnswered, IsComplete, OneAnswer, SomeAnswer, solve_words};
-ghost use Rattle.ff_report.specs.Refusals.{refusal_line};
+ghost use Rattle.ff_top.specs.Asking.{AsksSolve};
+ghost use Rattle.ff_top.specs.Answer.{IsAnswer, IsRun, IsAnswered, IsComplete, OneAnswer, SomeAnswer};
 
-use crate::plain::read_sheet;
+use crate::asking::solve_words;
+use crate::solving::{Outcome, refuse, solve};
 use crate::status::Status;
-use crate::texts::{report_text, usage_text};
+use crate::texts::usage_text;
 use crate::transfer::{Input, ReadNo, read_all, write_all};
 use ff_outside::{Sink, Source};
-use ff_report::refusal_text;
-use ff_tables::{NoMemory, Text};
-use ff_types::{MOST_BYTES, No, Refusal};
+use ff_types::{MOST_BYTES, Refusal};
 use std::alloc::Global;
-
-// What is to be written, and the status then.
-#[derive(Drop)]
-struct Outcome {
-    status: Status,
-    text: Text,
-}
-
-fn is_word(word: &String, text: &str) -> bool
-    ensures { IsTrue result ↔ (string_bytes word.now ≡ text.now) }
-{
-    word.as_str() == text
-}
-
-fn is_solve(words: &[String]) -> bool
-    ensures { IsTrue result ↔ (map string_bytes words.now ≡ solve_words) }
-{
-    words.len() == 1 && is_word(&words[0], "solve")
-}
-
-fn refuse(alloc: Global, refusal: Refusal) -> Result<Outcome, NoMemory>
-    ensures { IfOk result (λ o. (o.status ≡ Status.Refused) × (o.text ≡ refusal_line refusal)) }
-{
-    Ok(Outcome {
-        status: Status::Refused,
-        text: refusal_text(alloc, &refusal)?,
-    })
-}
-
-// The answer to `solve` on these bytes.
-fn solve(alloc: Global, bytes: &[u8]) -> Result<Outcome, NoMemory>
-    requires { length bytes.now ≤ MOST_BYTES }
-    ensures { IfOk result (λ o. IsAnswer solve_words bytes.now o.status o.text) }
-{
-    match read_sheet(alloc, bytes) {
-        Ok(sheet) => Ok(Outcome {
-            status: Status::Done,
-            text: report_text(alloc, sheet)?,
-        }),
-        Err(No::Refused(refusal)) => refuse(alloc, refusal),
-        Err(No::NoMemory) => Err(NoMemory),
-    }
-}
 
 // The answer to the words and what the source gives.
 fn prepare<S: Source>(alloc: Global, words: &[String], source: &mut S) -> Result<Outcome, ReadNo>
     ensures answer { IfOk result (λ o. (input : List ℕ) × Tells (S.left source.old) input
         × IsAnswer (map string_bytes words.now) input o.status o.text) }
-    ensures unread { (map string_bytes words.now ≡ solve_words → ⊥) → source.new ≡ source.old }
-    ensures read_off { OnOk result (map string_bytes words.now ≡ solve_words
+    ensures unread { (AsksSolve (map string_bytes words.now) → ⊥) → source.new ≡ source.old }
+    ensures read_off { OnOk result (AsksSolve (map string_bytes words.now)
         → IsReadOff MOST_BYTES (S.left source.old) (S.left source.new)) }
     ensures cause { IsErrOf result ReadNo.Failed → Rose (S.faults source.old) (S.faults source.new) (S.at_last source.new) }
     ensures later { S.faults source.old ≤ S.faults source.new }
 {
-    if !is_solve(words) {
+    let Some(budget) = solve_words(alloc, words)? else {
         return Ok(Outcome {
             status: Status::Usage,
             text: usage_text(alloc)?,
         });
-    }
+    };
     match read_all(alloc, source, MOST_BYTES)? {
-        Input::Whole(bytes) => Ok(solve(alloc, &bytes)?),
+        Input::Whole(bytes) => Ok(solve(alloc, &bytes, budget)?),
         Input::Beyond => Ok(refuse(alloc, Refusal::TooLong)?),
     }
 }
@@ -102,10 +58,10 @@ pub fn run_alone<S: Source, K: Sink>(
         (no_read_fault × no_write_fault) result }
 
     // The source is read only where the words ask for it, and then whole before anything is answered or written.
-    ensures unread { (map string_bytes words.now ≡ solve_words → ⊥) → source.new ≡ source.old }
-    ensures read_off { IsAnswered result → map string_bytes words.now ≡ solve_words
+    ensures unread { (AsksSolve (map string_bytes words.now) → ⊥) → source.new ≡ source.old }
+    ensures read_off { IsAnswered result → AsksSolve (map string_bytes words.now)
         → IsReadOff MOST_BYTES (S.left source.old) (S.left source.new) }
-    ensures read_first { (sink.new ≡ sink.old → ⊥) → map string_bytes words.now ≡ solve_words
+    ensures read_first { (sink.new ≡ sink.old → ⊥) → AsksSolve (map string_bytes words.now)
         → IsReadOff MOST_BYTES (S.left source.old) (S.left source.new) }
 
     // A fault comes only where one was counted.
@@ -132,7 +88,7 @@ pub fn one_answer()
     ensures { OneAnswer }
 {}
 
-/// A law: no words and input are without an answer.
+/// A law: words and an input without an answer would be of a pattern that folds.
 pub fn some_answer()
     ensures { SomeAnswer }
 {}

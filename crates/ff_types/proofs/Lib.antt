@@ -26,5 +26,6 @@ pub mod OneCrease
 pub mod CutRings
 pub mod CreaseFaces
 mod RefusalTests
+pub mod FoldedEdges
 pub mod FoldedOverlap
 pub mod CreaseOverlap

@@ -99,6 +99,15 @@ TooManyFaces points edges marks what.Faces limit = (limit ≡ MOST_FACES)
     × ((rings : List (List ℕ)) × AreRings points edges marks rings × (limit < length rings))
 TooManyFaces points edges marks _ limit = ⊥
 
+-- none of the refusals of its faces but the last
+pub record IsClear (points : List Pt) (edges : List EdgeEnds) (marks : Option (List Mark)) : Type 0 where
+  pub drawn : IsDrawn points edges
+  pub none_rim : Never (RimAt points edges marks)
+  pub none_pinch : Never (PinchAt points edges)
+  pub none_reflex : Never (ReflexAt points edges)
+  pub none_enclosed : Never (EnclosedAt points edges)
+  pub none_apart : Never (ApartAt points edges)
+
 -- Why a pattern has no faces, or too many: the refusal's condition holds, at the least number, and none that is tried before.
 abbrev pub RefusesFaces : List Pt → List EdgeEnds → Option (List Mark) → Refusal → Type 0
 RefusesFaces points edges marks (SamePoint v) = IsLeast (SamePointAt points) v
@@ -115,5 +124,6 @@ RefusesFaces points edges marks (Enclosed v) = IsDrawn points edges × Never (Ri
 RefusesFaces points edges marks (Apart f) = IsDrawn points edges × Never (RimAt points edges marks)
     × Never (PinchAt points edges) × Never (ReflexAt points edges) × Never (EnclosedAt points edges)
     × IsLeast (ApartAt points edges) f
-RefusesFaces points edges marks (TooMany what limit) = TooManyFaces points edges marks what limit
+RefusesFaces points edges marks (TooMany what limit) = IsClear points edges marks
+    × TooManyFaces points edges marks what limit
 RefusesFaces points edges marks _ = ⊥

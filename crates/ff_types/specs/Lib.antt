@@ -25,3 +25,5 @@ pub mod FaceRefusals
 pub mod Placing
 pub mod Carrying
 pub mod FoldRefusals
+pub mod FoldedPatterns
+pub mod Assignments

@@ -20,7 +20,7 @@ pub fn gcd(a: u128, b: u128) -> u128
 }
 
 /// The place `(x / w, y / w)` in lowest terms.
-pub(crate) fn reduced(x: i128, y: i128, w: i128) -> Place
+pub fn reduced(x: i128, y: i128, w: i128) -> Place
     requires { pos 0 <ℤ w }
     ensures { IsReduced x y w result }
 {

@@ -13,7 +13,7 @@ mod sizes;
 mod tests;
 
 pub use convex::{is_convex, next_place};
-pub use divisors::gcd;
+pub use divisors::{gcd, reduced};
 pub use heights::{cmp_height, corner};
 pub use lines::{Line, side_of, through};
 pub use meeting::meet;

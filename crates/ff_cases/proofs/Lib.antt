@@ -1,0 +1,6 @@
+pub mod PairSets
+pub mod CaseRows
+pub mod Creases
+pub mod Truth
+pub mod SortedLists
+pub mod Alike

@@ -1,0 +1,15 @@
+//! What the case of a folded sheet says of its stackings, and that a sheet has one case.
+ghost use Rattle.ff_borders.specs.Folded.{OfEachFolded};
+ghost use Rattle.ff_cases.specs.CaseLaws.{CasesAreAlike, CasesAreTrue};
+
+/// The case of a folded sheet is true to it: an assignment meets its constraints exactly where its set of pairs is a
+/// geometric stacking, and holds its starts exactly where that keeps the creases; each geometric stacking is the set of
+/// an assignment.
+pub fn cases_are_true()
+    ensures { OfEachFolded CasesAreTrue }
+{}
+
+/// Two cases of a folded sheet differ at most in the places of their cites.
+pub fn cases_are_alike()
+    ensures { OfEachFolded CasesAreAlike }
+{}

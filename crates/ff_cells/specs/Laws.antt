@@ -1,0 +1,32 @@
+-- That slab cells are counted one way only.
+use Rattle.std.specs.Prelude.{◌≤◌, List, length}
+use Rattle.ff_whole.specs.declared.places.Place.{Place}
+use Rattle.ff_types.specs.declared.patterns.Pattern.{Pattern}
+use Rattle.ff_types.specs.declared.faces.Faces.{Faces}
+use Rattle.ff_types.specs.declared.faces.Folded.{Folded}
+use Rattle.ff_types.specs.declared.refusals.No.TheVariants.{Refused}
+use Rattle.ff_types.specs.declared.refusals.Refusal.{Refusal}
+use Rattle.ff_types.specs.FoldedPatterns.{IsFoldedPattern}
+use Rattle.ff_types.specs.Sheets.{Sheet, sheet_of}
+use Rattle.ff_cells.specs.declared.cell.Cell.{Cell}
+use Rattle.ff_cells.specs.declared.limits.TheConstants.{MOST_CELLS, MOST_ENTRIES}
+use Rattle.ff_cells.specs.Tally.{entries_of}
+use Rattle.ff_cells.specs.SlabCells.{StandInCells, AreOneEach, entries, AreCells, AreNoCells}
+
+-- No list of places in different slab cells is longer, or has more entries, than one with a place in each.
+abbrev pub AreCounted : Sheet → Type 0
+AreCounted g = (places others : List Place) → AreOneEach g places → StandInCells g others
+    → (length others ≤ length places) × (entries g others ≤ entries g places)
+
+abbrev pub CellsAreCounted : Type 0
+CellsAreCounted = (pattern : Pattern) (faces : Faces) (folded : Folded) → IsFoldedPattern pattern faces folded
+    → AreCounted (sheet_of pattern faces folded)
+
+-- What has its cells within the limits isn't refused.
+abbrev pub AreNotRefused : Sheet → Type 0
+AreNotRefused g = (cells : List Cell) → AreCells g cells → length cells ≤ MOST_CELLS
+    → entries_of cells ≤ MOST_ENTRIES → (r : Refusal) → AreNoCells g (Refused r) → ⊥
+
+abbrev pub GivenOrRefused : Type 0
+GivenOrRefused = (pattern : Pattern) (faces : Faces) (folded : Folded) → IsFoldedPattern pattern faces folded
+    → AreNotRefused (sheet_of pattern faces folded)

@@ -1,0 +1,75 @@
+//! The cells of a folded sheet.
+ghost use Rattle.std.specs.Prelude.{◌≡◌, ◌≤◌, length, map, IfOk, IfErr};
+ghost use Rattle.std.specs.List.{All};
+ghost use Rattle.ff_types.specs.declared.patterns.Pattern.{Pattern as PatternRow};
+ghost use Rattle.ff_types.specs.FoldedPatterns.{IsFoldedPattern};
+ghost use Rattle.ff_types.specs.Sheets.{sheet_of};
+ghost use Rattle.ff_cells.specs.declared.limits.TheConstants.{MOST_CELLS as most_cells};
+ghost use Rattle.ff_cells.specs.declared.limits.TheConstants.{MOST_ENTRIES as most_entries};
+ghost use Rattle.ff_cells.specs.FaceSets.{HaveFaceSets, IsFaceList};
+ghost use Rattle.ff_cells.specs.SlabCells.{AreCells, AreNoCells};
+ghost use Rattle.ff_cells.specs.Tally.{entries_of};
+ghost use Rattle.ff_cells.specs.Xs.{AreXs, AreFound};
+
+use crate::found::Found;
+use crate::steps::bars_of;
+use crate::sweep::{strips, too_many};
+use crate::{Cell, MOST_ENTRIES};
+use ff_tables::{Items, NoMemory};
+use ff_types::{Faces, Folded, No, What};
+use ff_whole::Pt;
+use std::alloc::Global;
+
+fn xs_of(alloc: Global, points: &[Pt]) -> Result<Vec<i64>, NoMemory>
+    ensures { IfOk result (λ xs. xs.items ≡ map (λ p. p.x) points.now) }
+{
+    Ok(points.iter().map(|p| p.x).collect(alloc)?)
+}
+
+// The x of all points, from left to right.
+fn all_xs(alloc: Global, points: &[Pt]) -> Result<Vec<i64>, NoMemory>
+    ensures { IfOk result (λ xs. AreXs points.now xs.items) }
+{
+    let mut xs = xs_of(alloc, points)?;
+    xs.sort()?;
+    Ok(xs)
+}
+
+// The cells of all slabs.
+fn swept(alloc: Global, faces: &Faces, folded: &Folded) -> Result<Found, No>
+    requires { (pattern : PatternRow) × IsFoldedPattern pattern faces.now folded.now }
+    ensures done { IfOk result (AreFound folded.now.points faces.now.rings folded.now.up) }
+    ensures refused { IfErr result (λ no. (pattern : PatternRow)
+        → IsFoldedPattern pattern faces.now folded.now
+        → AreNoCells (sheet_of pattern faces.now folded.now) no) }
+{
+    let bars = bars_of(alloc, faces, folded)?;
+    let xs = all_xs(alloc, folded.points.as_slice())?;
+    strips(alloc, bars.as_slice(), xs.as_slice())
+}
+
+/// The slab cells of a folded pattern from left to right, then upwards: between neighbouring x of folded vertices and
+/// of crossings of folded edges, the parts between neighbouring images of edges that lie in at least one face. Each has
+/// the faces over it and three of its corners. Refused exactly where there are more than `MOST_CELLS` of them, or else
+/// more than `MOST_ENTRIES` faces over all of them together.
+pub fn cells(alloc: Global, faces: &Faces, folded: &Folded) -> Result<Items<Cell>, No>
+    requires { (pattern : PatternRow) × IsFoldedPattern pattern faces.now folded.now }
+    ensures made { IfOk result (λ list. (pattern : PatternRow)
+        → IsFoldedPattern pattern faces.now folded.now
+        → AreCells (sheet_of pattern faces.now folded.now) list) }
+    ensures face_sets { IfOk result (λ list. (pattern : PatternRow)
+        → IsFoldedPattern pattern faces.now folded.now
+        → HaveFaceSets (sheet_of pattern faces.now folded.now) list) }
+    ensures face_lists { IfOk result (All IsFaceList) }
+    ensures few { IfOk result (λ list. length list ≤ most_cells) }
+    ensures few_entries { IfOk result (λ list. entries_of list ≤ most_entries) }
+    ensures refused { IfErr result (λ no. (pattern : PatternRow)
+        → IsFoldedPattern pattern faces.now folded.now
+        → AreNoCells (sheet_of pattern faces.now folded.now) no) }
+{
+    let found = swept(alloc, faces, folded)?;
+    if found.entries > MOST_ENTRIES {
+        return Err(too_many(What::Entries, MOST_ENTRIES));
+    }
+    Ok(Items::of(found.cells))
+}

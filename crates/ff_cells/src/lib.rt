@@ -1,0 +1,23 @@
+//! The folded sheet as layers: over every place, exactly which faces lie there.
+#![tactic(auto)]
+
+mod adding;
+mod bars;
+mod border;
+mod cell;
+mod face_lists;
+mod found;
+mod laws;
+mod layers;
+mod limits;
+mod slab;
+mod steps;
+mod sweep;
+#[cfg(test)]
+mod tests;
+
+pub use cell::Cell;
+pub use face_lists::are_face_lists;
+pub use laws::{cells_are_counted, given_or_refused};
+pub use layers::cells;
+pub use limits::{MOST_CELLS, MOST_ENTRIES};

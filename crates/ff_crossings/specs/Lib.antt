@@ -1,0 +1,5 @@
+pub mod Listings
+pub mod Alternating
+pub mod RowMeanings
+pub mod ChordMembers
+pub mod CrossingLaws

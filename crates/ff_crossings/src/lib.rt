@@ -1,0 +1,17 @@
+//! Laws of crossings: that no paper crosses is what the rows of the constraints say.
+#![tactic(auto)]
+
+mod alternating;
+mod chords;
+mod crossing;
+mod listings;
+mod rows;
+
+pub use alternating::{
+    left_cap_alternates, left_caps_alternate, opposed_caps_never, right_cap_alternates,
+    right_caps_alternate, throughs_alternate,
+};
+pub use chords::{chords_are, sides_are};
+pub use crossing::{cites_give_rows, rows_are_geometry, rows_give_stackings};
+pub use listings::{listed_exactly, parts_are_listed, triples_suffice};
+pub use rows::{equal_rows, rows_by_test, taco_taco_rows, transitivity_rows};

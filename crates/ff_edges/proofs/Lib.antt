@@ -1,0 +1,13 @@
+pub mod OnWays
+pub mod CommonWays
+pub mod Rows
+pub mod RingSides
+pub mod OneSide
+pub mod Segments
+pub mod PairLists
+pub mod Gaps
+pub mod Clipping
+pub mod PartsInside
+pub mod FaceSteps
+pub mod FaceParts
+pub mod FaceLists

@@ -1,0 +1,106 @@
+-- The list of edges that run along each other, as far as it is made, and what it comes to.
+use Rattle.std.proofs.Common.{◌≡◌, ℕ, ◌+◌, ◌<◌, ◌≤◌, ◌⊎◌, inl, inr, refl, sym, ◌∙◌, arith, Bool, true, false, IsTrue, List, [], ◌∷◌, ◌++◌, length}
+use Rattle.std.proofs.lemmas.Bool.{cases_lt, ltb-true, false≢true}
+use Rattle.ff_whole.specs.declared.points.Pt.{Pt}
+use Rattle.ff_whole.specs.Points.{IsNear}
+use Rattle.ff_whole.specs.Convex.{point_at}
+use Rattle.ff_types.specs.declared.patterns.Pattern.{Pattern}
+use Rattle.ff_types.specs.declared.faces.Faces.{Faces}
+use Rattle.ff_types.specs.declared.faces.Folded.{Folded}
+use Rattle.ff_types.specs.declared.refusals.No.{No}
+use Rattle.ff_types.specs.declared.refusals.No.TheVariants.{Refused, NoMemory}
+use Rattle.ff_types.specs.Sheets.{Sheet, sheet_of, tail, head, is_edge}
+use Rattle.ff_types.specs.Cites.{is_folded_edge, is_flat_edge, on_one_side}
+use Rattle.ff_types.specs.Segments.{ShareSegment}
+use Rattle.ff_types.specs.FoldedPatterns.{IsFoldedPattern}
+use Rattle.ff_types.proofs.FoldedEdges.{tail_below, head_below, ends_apart}
+use Rattle.ff_edges.specs.declared.edge_pair.EdgePair.{EdgePair}
+use Rattle.ff_edges.specs.Ways.{IsCommonWay, HaveNoWay}
+use Rattle.ff_edges.specs.SharedSegments.{beside_both, constrain, edges_of_pair, IsEdgePair, AreEdgePairs, IsWanted, ArePairsTo, IsFull, AreNoEdgePairs}
+use Rattle.ff_edges.proofs.OnWays.{both_of}
+use Rattle.ff_edges.proofs.CommonWays.{way_or_not}
+use Rattle.ff_edges.proofs.Segments.{constrain_by, segment_of, no_segment}
+use Rattle.ff_edges.proofs.Rows as rows
+
+-- a constraint rests on two edges that are there
+second_flag : (a b s c d : Bool) → IsTrue (constrain_by a b s c d) → IsTrue b ⊎ IsTrue d
+second_flag a true s c d t = inl refl
+second_flag a false s c true t = inr refl
+second_flag true false s true false t = absurd (false≢true t)
+second_flag true false s false false t = absurd (false≢true t)
+second_flag false false s true false t = absurd (false≢true t)
+second_flag false false s false false t = absurd (false≢true t)
+
+pub second_edge : (g : Sheet) (e k : ℕ) → IsTrue (constrain g e k) → k < length g.edges
+second_edge g e k t = elim (second_flag (is_folded_edge g e) (is_folded_edge g k) (on_one_side g e (beside_both g e k)) (is_flat_edge g e) (is_flat_edge g k) t) [
+  | inl u ↦ ltb-true k (length g.edges) (both_of (is_edge g k) _ u).0
+  | inr u ↦ ltb-true k (length g.edges) (both_of (is_edge g k) _ u).0
+]
+
+above : (g : Sheet) (a b : ℕ) → IsWanted g a b → a < b
+above g a b w = w.order
+
+pub pairs_begin : (g : Sheet) (e : ℕ) (list : List EdgePair) → ArePairsTo g e 0 list → ArePairsTo g e (e + 1) list
+pairs_begin g e list s = rows.row_begins edges_of_pair (IsEdgePair g) (IsWanted g) (above g) e list s
+
+pub pairs_end : (g : Sheet) (e k : ℕ) (list : List EdgePair) → length g.edges ≤ k → ArePairsTo g e k list → ArePairsTo g (e + 1) 0 list
+pairs_end g e k list far s = rows.row_ends edges_of_pair (IsEdgePair g) (IsWanted g) e list k (λ b w. let l = w.edge in omega (arith, l, far)) s
+
+pub pairs_skip : (g : Sheet) (e k : ℕ) (list : List EdgePair) → (IsTrue (constrain g e k) → ShareSegment g e k → ⊥) → ArePairsTo g e k list → ArePairsTo g e (k + 1) list
+pairs_skip g e k list none s = rows.skip edges_of_pair (IsEdgePair g) (IsWanted g) e k list (λ w. none w.constrained w.shares) s
+
+key_is : (x : EdgePair) (e k : ℕ) → x.e ≡ e → x.e2 ≡ k → edges_of_pair x ≡ (e, k)
+key_is x e k p q = λ i. (p i, q i)
+
+pub pairs_take : (g : Sheet) (e k : ℕ) (list : List EdgePair) (x : EdgePair) → (x.e ≡ e) × (x.e2 ≡ k) × IsEdgePair g x → ArePairsTo g e k list → ArePairsTo g e (k + 1) (list ++ x ∷ [])
+pairs_take g e k list x h s = rows.take edges_of_pair (IsEdgePair g) (IsWanted g) e k list x (key_is x e k h.0 h.1) h.2 s
+
+pub pairs_none : (g : Sheet) → ArePairsTo g 0 0 []
+pairs_none g = rows.listed_none edges_of_pair (IsEdgePair g) (IsWanted g)
+
+pub pairs_are : (g : Sheet) (n : ℕ) (list : List EdgePair) → length g.edges ≤ n → ArePairsTo g n 0 list → AreEdgePairs g list
+pairs_are g n list far s = record {
+  each = λ m c e. (s.only m c e).0;
+  all = λ e k lt t h. let l = second_edge g e k t in s.all e k (record { order = lt; edge = l; constrained = t; shares = h }) (inl (omega (arith, lt, l, far)));
+  sorted = s.sorted;
+}
+
+-- ---- the list can be finished
+
+module _ {pattern : Pattern} {faces : Faces} {folded : Folded} (h : IsFoldedPattern pattern faces folded) where
+  abbrev g : Sheet
+  g = sheet_of pattern faces folded
+
+  near : (v : ℕ) → v < length folded.points → IsNear (point_at folded.points v)
+  near v l = h.near v l
+
+  decided : (i j : ℕ) → ((x : EdgePair) × (edges_of_pair x ≡ (i, j)) × IsEdgePair g x) ⊎ (IsWanted g i j → ⊥)
+  decided i j = elim (cases_lt i j) [
+    | inr l ↦ inr (λ w. let o = w.order in omega (arith, l, o))
+    | inl l ↦ elim (cases_lt j (length pattern.edges)) [
+      | inr m ↦ inr (λ w. let o = w.edge in omega (arith, m, o))
+      | inl m ↦ by (constrain g i j) refl l m
+    ]
+  ] where
+    ways : i < j → j < length pattern.edges → ((p : Pt) × (q : Pt) × IsCommonWay (tail g i) (head g i) (tail g j) (head g j) p q) ⊎ HaveNoWay (tail g i) (head g i) (tail g j) (head g j)
+    ways l m =
+        let k : i < length pattern.edges = omega (arith, l, m) in
+        way_or_not (tail g i) (head g i) (tail g j) (head g j) (near _ (tail_below h i k)) (near _ (head_below h i k)) (near _ (tail_below h j m)) (near _ (head_below h j m)) (ends_apart h i k) (ends_apart h j m)
+
+    by : (b : Bool) → constrain g i j ≡ b → i < j → j < length pattern.edges → ((x : EdgePair) × (edges_of_pair x ≡ (i, j)) × IsEdgePair g x) ⊎ (IsWanted g i j → ⊥)
+    by false e l m = inr (λ w. false≢true (sym e ∙ w.constrained))
+    by true e l m = elim (ways l m) [
+      | inl (p, q, way) ↦ inl (record { e = i; e2 = j; p = p; q = q }, refl, record { order = l; constrained = e; shares = segment_of g i j p q way; ends = way })
+      | inr none ↦ inr (λ w. no_segment g i j none w.shares)
+    ]
+
+  pub too_many : (e k : ℕ) (list : List EdgePair) (x : EdgePair) → e < length pattern.edges → (x.e ≡ e) × (x.e2 ≡ k) × IsEdgePair g x → ArePairsTo g e k list
+      → (no : No) → IsFull (length list) no → AreNoEdgePairs g no
+  too_many e k list x l good s NoMemory full = tt
+  too_many e k list x l good s (Refused r) full =
+      let more = rows.finish edges_of_pair (IsEdgePair g) (IsWanted g) (length pattern.edges) (length pattern.edges)
+      (λ a b w. let o = w.order in let m = w.edge in (omega (arith, o, m), m)) decided e (k + 1) (list ++ x ∷ []) l (pairs_take g e k list x good s) in
+      let longer = more.2 in
+      let one = rows.one_longer list x in
+      let many = full.1 in
+      (full.0, (more.0, pairs_are g (length pattern.edges) more.0 (omega arith) more.1, omega (arith, longer, one, many)))

@@ -1,0 +1,11 @@
+use Rattle.std.proofs.Common.{◌≤◌, length}
+use Rattle.ff_types.specs.Sheets.{sheet_of}
+use Rattle.ff_edges.specs.declared.limits.TheConstants.{MOST_CONSTRAINTS}
+use Rattle.ff_edges.specs.EdgesInside.{AreFacesTo}
+use Rattle.ff_edges.proofs.crossed.edge_faces.Given as goal
+
+abbrev pub invariant-loop-e : goal.invariant-loop-e
+invariant-loop-e l = record {
+  listed : AreFacesTo (sheet_of l.pattern l.faces l.folded) l.e 0 l.list.items;
+  few : length l.list.items ≤ MOST_CONSTRAINTS;
+}

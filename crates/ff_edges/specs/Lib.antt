@@ -1,0 +1,5 @@
+pub mod Ways
+pub mod Listing
+pub mod SharedSegments
+pub mod Clips
+pub mod EdgesInside

@@ -1,0 +1,21 @@
+//! Which images of edges run along each other, and which run inside faces.
+#![tactic(auto)]
+
+mod along;
+mod append;
+mod beside;
+mod clips;
+mod common;
+mod crossed;
+mod edge_face;
+mod edge_pair;
+mod limits;
+mod marks;
+mod shared;
+mod sides;
+
+pub use along::edge_pairs;
+pub use crossed::edge_faces;
+pub use edge_face::EdgeFace;
+pub use edge_pair::EdgePair;
+pub use limits::MOST_CONSTRAINTS;

@@ -1,0 +1,5 @@
+use Rattle.ff_pairs.specs.Tables.{Adds, IsInCells}
+use Rattle.ff_pairs.proofs.marking.mark_cells.Given as goal
+
+abbrev pub invariant-loop-k : goal.invariant-loop-k
+invariant-loop-k l = Adds l.width l.fn.table l.table (IsInCells l.cells l.k)

@@ -1,0 +1,12 @@
+//! The pairs of overlapping faces of a folded sheet, numbered.
+#![tactic(auto)]
+
+mod limits;
+mod listing;
+mod marking;
+mod overlaps;
+#[cfg(test)]
+mod tests;
+
+pub use limits::MOST_PAIRS;
+pub use overlaps::pairs;

@@ -1,0 +1,174 @@
+-- A vertex inside a ring is within each extent that is round its corners.
+use Rattle.std.proofs.Common.{◌≡◌, ◌⊎◌, inl, inr, ℕ, ◌+◌, ◌<◌, ◌≤◌, List, [], ◌∷◌, ◌++◌, length, arith, refl, sym, ap, ◌∙◌, subst, ℤ, pos, neg_ℤ, ◌-ℤ◌, ◌<ℤ◌}
+use Rattle.std.proofs.lemmas.Int.{ints}
+use Rattle.std.proofs.lemmas.List.{get_or_append_left, get_or_push, get_or_default}
+use Rattle.std.proofs.lemmas.List.Elements.{Contains-get_or}
+use Rattle.std.proofs.lemmas.List.Sorted.{Contains-permutation, IsPermutation-sym}
+use Rattle.std.specs.List.Sorted.{IsPermutation}
+use Rattle.ff_whole.specs.declared.points.Pt.{Pt}
+use Rattle.ff_whole.specs.declared.lines.Line.{Line}
+use Rattle.ff_whole.specs.Points.{IsNear}
+use Rattle.ff_whole.specs.Places.{height, place_of}
+use Rattle.ff_whole.specs.Convex.{point_at, next}
+use Rattle.ff_whole.proofs.Signs.{linear}
+use Rattle.ff_whole.proofs.Ring.{var, num, opp, ◌⊗◌, ◌⊕◌, ◌⊖◌, solve}
+use Rattle.ff_whole.proofs.Turns.{height-through}
+use Rattle.ff_whole.proofs.Slabs.{left-closed}
+use Rattle.ff_types.specs.Rings.{corner}
+use Rattle.ff_types.specs.Faces.{ring_at}
+use Rattle.ff_planar.specs.declared.extents.Extent.{Extent}
+use Rattle.ff_planar.specs.Reflex.{IsInside}
+use Rattle.ff_planar.specs.Extents.{extent_at, IsAround, AreInOrder}
+use Rattle.ff_planar.specs.Frames.{IsVertexExtent, AreVertexExtents, IsAroundCorners, IsRingExtent, AreRingExtents, AreWest, HoldsNone, AreHollow, NoneInside}
+
+last_or : (k n : ℕ) → k < n + 1 → (k < n) ⊎ (k ≡ n)
+last_or k n l = grind arith
+
+below_or : (i n : ℕ) → (i < n) ⊎ (n ≤ i)
+below_or i n = grind arith
+
+-- how far a point is from the lines through p, west to east and south to north
+rightwards : (p q : Pt) → height (record { a = pos 1; b = pos 0; c = p.x }) (place_of q) ≡ q.x -ℤ p.x
+rightwards p q = solve (q.x ∷ q.y ∷ p.x ∷ []) ((num (pos 1) ⊗ var 0 ⊕ num (pos 0) ⊗ var 1) ⊖ var 2 ⊗ num (pos 1)) (var 0 ⊖ var 2) refl
+
+leftwards : (p q : Pt) → height (record { a = neg_ℤ (pos 1); b = pos 0; c = neg_ℤ p.x }) (place_of q) ≡ p.x -ℤ q.x
+leftwards p q = solve (q.x ∷ q.y ∷ p.x ∷ []) ((opp (num (pos 1)) ⊗ var 0 ⊕ num (pos 0) ⊗ var 1) ⊖ opp (var 2) ⊗ num (pos 1)) (var 2 ⊖ var 0) refl
+
+upwards : (p q : Pt) → height (record { a = pos 0; b = pos 1; c = p.y }) (place_of q) ≡ q.y -ℤ p.y
+upwards p q = solve (q.x ∷ q.y ∷ p.y ∷ []) ((num (pos 0) ⊗ var 0 ⊕ num (pos 1) ⊗ var 1) ⊖ var 2 ⊗ num (pos 1)) (var 1 ⊖ var 2) refl
+
+downwards : (p q : Pt) → height (record { a = pos 0; b = neg_ℤ (pos 1); c = neg_ℤ p.y }) (place_of q) ≡ p.y -ℤ q.y
+downwards p q = solve (q.x ∷ q.y ∷ p.y ∷ []) ((num (pos 0) ⊗ var 0 ⊕ opp (num (pos 1)) ⊗ var 1) ⊖ opp (var 2) ⊗ num (pos 1)) (var 2 ⊖ var 1) refl
+
+at_zero : {h : ℤ} (z : ℤ) → h ≡ z -ℤ z → h ≡ pos 0
+at_zero z e = omega (arith, linear, e)
+
+module _ (points : List Pt) (ring : List ℕ) (v : ℕ) (some : 0 < length ring) (inside : IsInside points ring v) where
+  abbrev p : Pt
+  p = point_at points v
+
+  abbrev at : ℕ → Pt
+  at i = point_at points (corner ring i)
+
+  -- not all corners are strictly left of a line through it
+  not_all_left : (l : Line) → height l (place_of p) ≡ pos 0 → ((i : ℕ) → i < length ring → pos 0 <ℤ height l (place_of (at i))) → ⊥
+  not_all_left l on all =
+      let h = left-closed (length ring) at (place_of p) (omega (arith, ints)) some (λ i m. subst (λ z. pos 0 <ℤ z) (sym (height-through (at i) (at (next (length ring) i)) p)) (inside i m)) l all in
+      omega (arith, linear, h, on)
+
+  module _ (e : Extent) (a : IsAroundCorners points ring (length ring) e) where
+    pub not_west : p.x <ℤ e.low.x → ⊥
+    not_west l = not_all_left (record { a = pos 1; b = pos 0; c = p.x }) (at_zero p.x (rightwards p p)) (λ i m. let w = (a.around i m).west in let h = rightwards p (at i) in omega (arith, linear, w, l, h))
+
+    pub not_east : e.high.x <ℤ p.x → ⊥
+    not_east l = not_all_left (record { a = neg_ℤ (pos 1); b = pos 0; c = neg_ℤ p.x }) (at_zero p.x (leftwards p p)) (λ i m. let w = (a.around i m).east in let h = leftwards p (at i) in omega (arith, linear, w, l, h))
+
+    pub not_south : p.y <ℤ e.low.y → ⊥
+    not_south l = not_all_left (record { a = pos 0; b = pos 1; c = p.y }) (at_zero p.y (upwards p p)) (λ i m. let w = (a.around i m).south in let h = upwards p (at i) in omega (arith, linear, w, l, h))
+
+    pub not_north : e.high.y <ℤ p.y → ⊥
+    not_north l = not_all_left (record { a = pos 0; b = neg_ℤ (pos 1); c = neg_ℤ p.y }) (at_zero p.y (downwards p p)) (λ i m. let w = (a.around i m).north in let h = downwards p (at i) in omega (arith, linear, w, l, h))
+
+-- ---- lists of extents
+
+-- what holds of each, in another order
+same_each : (P : Extent → Type 0) (old new : List Extent) → IsPermutation old new → ((i : ℕ) → i < length old → P (extent_at old i)) → (i : ℕ) → i < length new → P (extent_at new i)
+same_each P old new p h i l =
+    let c = Contains-permutation new old (extent_at new i) (IsPermutation-sym old new p) (Contains-get_or new i _ l) in
+    subst P (get_or_default old c.0 _ (extent_at new i) c.1 ∙ c.2) (h c.0 c.1)
+
+same_all : (n : ℕ) (old new : List Extent) → IsPermutation old new → ((k : ℕ) → k < n → (i : ℕ) × (i < length old) × ((extent_at old i).number ≡ k)) → (k : ℕ) → k < n → (i : ℕ) × (i < length new) × ((extent_at new i).number ≡ k)
+same_all n old new p h k l =
+    let r = h k l in
+    let c = Contains-permutation old new (extent_at old r.0) p (Contains-get_or old r.0 _ r.1) in
+    (c.0, c.1, ap (λ (x : Extent). x.number) (get_or_default new c.0 _ (extent_at old r.0) c.1 ∙ c.2) ∙ r.2)
+
+pub same_vertices : (points : List Pt) (old new : List Extent) → AreVertexExtents points old → IsPermutation old new → AreVertexExtents points new
+same_vertices points old new a p = record { each = same_each (IsVertexExtent points) old new p a.each; all = same_all (length points) old new p a.all }
+
+pub same_rings : (points : List Pt) (rings : List (List ℕ)) (old new : List Extent) → AreRingExtents points rings old → IsPermutation old new → AreRingExtents points rings new
+same_rings points rings old new a p = record { each = same_each (IsRingExtent points rings) old new p a.each; all = same_all (length rings) old new p a.all }
+
+-- one more, with the next number
+pub each_more : (P : Extent → Type 0) (list : List Extent) (n : ℕ) (new : Extent) → length list ≡ n → ((k : ℕ) → k < n → P (extent_at list k) × ((extent_at list k).number ≡ k))
+    → P new → new.number ≡ n → (k : ℕ) → k < n + 1 → P (extent_at (list ++ new ∷ []) k) × ((extent_at (list ++ new ∷ []) k).number ≡ k)
+each_more P list n new e h a m k l = elim (last_or k n l) [
+  | inl o ↦ subst (λ x. P x × (x.number ≡ k)) (sym (get_or_append_left list (new ∷ []) _ k (omega (arith, o, e)))) (h k o)
+  | inr o ↦ subst (λ x. P x × (x.number ≡ k)) (sym (get_or_push list new _ k (e ∙ sym o))) (a, m ∙ sym o)
+]
+
+-- one corner more
+pub around_more : (points : List Pt) (ring : List ℕ) (n : ℕ) (old new : Extent) → IsAroundCorners points ring n old → IsNear new.low → IsNear new.high → IsAround (point_at points (corner ring n)) new
+    → ((q : Pt) → IsAround q old → IsAround q new) → IsAroundCorners points ring (n + 1) new
+around_more points ring n old new a low high here others = record {
+  low_near = low;
+  high_near = high;
+  around = λ k l. elim (last_or k n l) [ inl o ↦ others _ (a.around k o) | inr e ↦ subst (λ i. IsAround (point_at points (corner ring i)) new) (sym e) here ];
+}
+
+pub ring_is : (points : List Pt) (rings : List (List ℕ)) (f : ℕ) (ring : List ℕ) (e : Extent) → f < length rings → ring ≡ ring_at rings f → e.number ≡ f → IsAroundCorners points ring (length ring) e → IsRingExtent points rings e
+ring_is points rings f ring e l same number a = record {
+  there = subst (λ k. k < length rings) (sym number) l;
+  corners = subst (λ (r : List ℕ). IsAroundCorners points r (length r) e) (same ∙ ap (ring_at rings) (sym number)) a;
+}
+
+-- ---- no vertex inside
+
+pub west_more : (spots : List Extent) (frame : Extent) (n : ℕ) → AreWest spots frame n → (extent_at spots n).low.x <ℤ frame.low.x → AreWest spots frame (n + 1)
+west_more spots frame n h l j m = elim (last_or j n m) [ inl o ↦ h j o | inr e ↦ subst (λ k. (extent_at spots k).low.x <ℤ frame.low.x) (sym e) l ]
+
+-- a vertex with such an extent isn't inside
+module _ (points : List Pt) (ring : List ℕ) (some : 0 < length ring) (frame : Extent) (a : IsAroundCorners points ring (length ring) frame) (v : Extent) (e : IsVertexExtent points v) where
+  pub none_west : v.low.x <ℤ frame.low.x → IsInside points ring v.number → ⊥
+  none_west l h = not_west points ring v.number some h frame a (subst (λ (q : Pt). q.x <ℤ frame.low.x) e.low_is l)
+
+  pub none_east : frame.high.x <ℤ v.low.x → IsInside points ring v.number → ⊥
+  none_east l h = not_east points ring v.number some h frame a (subst (λ (q : Pt). frame.high.x <ℤ q.x) e.low_is l)
+
+  pub none_south : v.low.y <ℤ frame.low.y → IsInside points ring v.number → ⊥
+  none_south l h = not_south points ring v.number some h frame a (subst (λ (q : Pt). q.y <ℤ frame.low.y) e.low_is l)
+
+  pub none_north : frame.high.y <ℤ v.low.y → IsInside points ring v.number → ⊥
+  none_north l h = not_north points ring v.number some h frame a (subst (λ (q : Pt). frame.high.y <ℤ q.y) e.low_is l)
+
+module _ (points : List Pt) (ring : List ℕ) (some : 0 < length ring) (frame : Extent) (a : IsAroundCorners points ring (length ring) frame) (spots : List Extent) (s : AreVertexExtents points spots) where
+  pub holds_more : (start n : ℕ) → HoldsNone points ring spots start n → (IsInside points ring (extent_at spots n).number → ⊥) → HoldsNone points ring spots start (n + 1)
+  holds_more start n h x j l m = elim (last_or j n m) [ inl o ↦ h j l o | inr e ↦ subst (λ k. IsInside points ring (extent_at spots k).number → ⊥) (sym e) x ]
+
+  pub holds_rest : (start n : ℕ) → AreInOrder spots → n < length spots → frame.high.x <ℤ (extent_at spots n).low.x → HoldsNone points ring spots start n → HoldsNone points ring spots start (length spots)
+  holds_rest start n o l east h j m k = elim (which j n) [
+    | inl x ↦ h j m x
+    | inr (inl x) ↦ none_east points ring some frame a (extent_at spots j) (s.each j k) (let w = o.rises n j x k in omega (arith, linear, w, east))
+    | inr (inr x) ↦ none_east points ring some frame a (extent_at spots j) (s.each j k) (subst (λ i. frame.high.x <ℤ (extent_at spots i).low.x) (sym x) east)
+  ]
+    where
+      which : (i j : ℕ) → (i < j) ⊎ ((j < i) ⊎ (i ≡ j))
+      which i j = grind arith
+
+  pub holds_all : (start : ℕ) → start ≤ length spots → AreWest spots frame start → HoldsNone points ring spots start (length spots) → HoldsNone points ring spots 0 (length spots)
+  holds_all start l w h j m k = elim (below_or j start) [
+    | inl x ↦ none_west points ring some frame a (extent_at spots j) (s.each j k) (w j x)
+    | inr x ↦ h j x k
+  ]
+
+pub none_inside : (points : List Pt) (rings : List (List ℕ)) (spots frames : List Extent) (n : ℕ) → AreVertexExtents points spots → AreRingExtents points rings frames → AreHollow points rings spots frames n → length frames ≤ n → NoneInside points rings
+none_inside points rings spots frames n s r h l f v m k i =
+    let x = r.all f m in
+    let y = s.all v k in
+    h x.0 (let o = x.1 in omega (arith, o, l)) y.0 (omega arith) y.1 (subst (λ g. IsInside points (ring_at rings g) (extent_at spots y.0).number) (sym x.2) (subst (IsInside points (ring_at rings f)) (sym y.2) i))
+
+-- one ring more
+pub west_of_next : (spots frames : List Extent) (i start : ℕ) → AreInOrder frames → AreWest spots (extent_at frames i) start → (k : ℕ) → i + 1 ≤ k → k < length frames → AreWest spots (extent_at frames k) start
+west_of_next spots frames i start o w k l m j n = let a = w j n in let b = o.rises i k (omega (arith, l)) m in omega (arith, linear, a, b)
+
+pub hollow_more : (points : List Pt) (rings : List (List ℕ)) (spots frames : List Extent) (i start : ℕ) (ring : List ℕ) → ((f : ℕ) → f < length rings → 0 < length (ring_at rings f)) → AreVertexExtents points spots → AreRingExtents points rings frames
+    → i < length frames → ring ≡ ring_at rings (extent_at frames i).number → start ≤ length spots → AreWest spots (extent_at frames i) start → HoldsNone points ring spots start (length spots)
+    → AreHollow points rings spots frames i → AreHollow points rings spots frames (i + 1)
+hollow_more points rings spots frames i start ring some s r l same within west none h k m = elim (last_or k i m) [
+  | inl o ↦ h k o
+  | inr e ↦ subst (λ n. HoldsNone points (ring_at rings (extent_at frames n).number) spots 0 (length spots)) (sym e) here
+]
+  where
+    here : HoldsNone points (ring_at rings (extent_at frames i).number) spots 0 (length spots)
+    here = let x = r.each i l in
+        holds_all points (ring_at rings (extent_at frames i).number) (some (extent_at frames i).number x.there) (extent_at frames i) x.corners spots s start within west (subst (λ q. HoldsNone points q spots start (length spots)) same none)

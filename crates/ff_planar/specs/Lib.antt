@@ -1,0 +1,16 @@
+pub mod Graphs
+pub mod Firsts
+pub mod Drawn
+pub mod Extents
+pub mod Beside
+pub mod Darts
+pub mod Turns
+pub mod Orbits
+pub mod Traces
+pub mod Seen
+pub mod Reflex
+pub mod Frames
+pub mod Outlines
+pub mod Joining
+pub mod Given
+pub mod Laws

@@ -1,0 +1,11 @@
+pub mod Images
+pub mod Trees
+pub mod Sheets
+pub mod Index
+pub mod Walked
+pub mod Flags
+pub mod Puts
+pub mod Standing
+pub mod Folding
+pub mod Laws
+pub mod Worked

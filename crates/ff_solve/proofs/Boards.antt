@@ -1,0 +1,48 @@
+-- The report of a board from its parts.
+use Rattle.std.proofs.Common.{◌≡◌, ℕ, List, ◌++◌, ◌∙◌, length, Option, Some, ap, sym}
+use Rattle.std.proofs.lemmas.List.{length-map}
+use Rattle.ff_types.specs.declared.faces.Faces.{Faces}
+use Rattle.ff_types.specs.declared.faces.Folded.{Folded}
+use Rattle.ff_types.specs.declared.cases.Case.{Case}
+use Rattle.ff_propagate.specs.declared.facts.Fact.{Fact}
+use Rattle.ff_propagate.specs.declared.facts.Closed.TheVariants.{Board}
+use Rattle.ff_propagate.specs.declared.parts.Part.{Part}
+use Rattle.ff_propagate.specs.Facts.{value_at}
+use Rattle.ff_propagate.specs.Closing.{ClosesTo}
+use Rattle.ff_propagate.specs.Parts.{AreParts}
+use Rattle.ff_parts.specs.Lists.{vars_of}
+use Rattle.ff_parts.specs.Factors.{FactorsFor}
+use Rattle.ff_report.specs.declared.parts.PartOutcome.{PartOutcome}
+use Rattle.ff_report.specs.Heads.{lines_of, head}
+use Rattle.ff_solve.specs.declared.texts.Last.{Last}
+use Rattle.ff_solve.specs.Lines.{last_of, parts_line, last_line, part_at}
+use Rattle.ff_solve.specs.Outcomes.{AreOutcomes}
+use Rattle.ff_solve.specs.Reports.{IsBoardReport}
+
+pub report_of_board : (faces : Faces) (folded : Folded) (case : Case) (budget : ℕ) (facts : List (Option Fact)) (parts : List Part) (outcomes : List PartOutcome) (last : Last) (text : List ℕ)
+    → ClosesTo case.system.vars case.system.constraints case.starts (Board facts)
+    → AreParts case.system.vars case.system.constraints (value_at facts) (vars_of parts)
+    → FactorsFor case.system.vars case.system.constraints (value_at facts) (vars_of parts)
+    → AreOutcomes case.system.constraints (value_at facts) budget parts outcomes → last ≡ last_of outcomes
+    → text ≡ head faces folded case (Some facts) ++ parts_line (length parts) ++ lines_of (part_at (vars_of parts) outcomes) (length parts) ++ last_line (last_of outcomes)
+    → IsBoardReport faces folded case budget last text
+report_of_board faces folded case budget facts parts outcomes last text closes are factors o e t = record {
+  facts = facts;
+  parts = parts;
+  outcomes = outcomes;
+  wide = closes.0.wide;
+  closure = closes.1;
+  parts_are = are;
+  factors = factors case.starts closes.1;
+  outcomes_are = o;
+  ends = e;
+  is = t ∙ ap (λ n. head faces folded case (Some facts) ++ parts_line n ++ lines_of (part_at (vars_of parts) outcomes) n ++ last_line (last_of outcomes)) (sym (length-map parts (λ (p : Part). p.vars)));
+}
+
+pub text_as : (first other : List ℕ) (parts ps : List Part) (outcomes os : List PartOutcome) (text : List ℕ)
+    → text ≡ first ++ parts_line (length ps) ++ lines_of (part_at (vars_of ps) os) (length ps) ++ last_line (last_of os) → first ≡ other → ps ≡ parts → os ≡ outcomes
+    → text ≡ other ++ parts_line (length parts) ++ lines_of (part_at (vars_of parts) outcomes) (length parts) ++ last_line (last_of outcomes)
+text_as first other parts ps outcomes os text t a b c =
+    t ∙ ap (λ h. h ++ parts_line (length ps) ++ lines_of (part_at (vars_of ps) os) (length ps) ++ last_line (last_of os)) a
+    ∙ ap (λ qs. other ++ parts_line (length qs) ++ lines_of (part_at (vars_of qs) os) (length qs) ++ last_line (last_of os)) b
+    ∙ ap (λ rs. other ++ parts_line (length parts) ++ lines_of (part_at (vars_of parts) rs) (length parts) ++ last_line (last_of rs)) c

@@ -1,0 +1,56 @@
+-- The search of a part comes to one outcome within a budget.
+use Rattle.std.proofs.Common.{◌≡◌, ◌⊎◌, inl, inr, ℕ, suc, ◌+◌, ◌*◌, ◌<◌, ◌∙◌, List, [], ◌∷◌, length, length-append, slice_index, Option, Some, refl, ap, sym, subst, arith}
+use Rattle.ff_tables.specs.declared.orders.Order.{Order}
+use Rattle.ff_tables.specs.declared.orders.Order.TheVariants.{Below, Above}
+use Rattle.ff_tables.specs.declared.terms.Constraint.{Constraint}
+use Rattle.ff_propagate.specs.Trees.{Tree, Clash, Full, Fork, IsTreeAt, IsBranching, IsDecidedAt, HasValues, visits}
+use Rattle.ff_report.specs.declared.parts.PartOutcome.{PartOutcome}
+use Rattle.ff_report.specs.declared.parts.PartOutcome.TheVariants as outcome
+use Rattle.ff_solve.specs.Outcomes.{IsOutcome, EndsWithin, GoesBeyond}
+
+compare : (m n : ℕ) → (m < n) ⊎ ((m ≡ n) ⊎ (n < m))
+compare m n = grind arith
+
+-- the least undecided variable is one
+one_branching : (cons : List Constraint) (base : ℕ → Order → Type 0) (tried : List (ℕ × Order)) (vars : List ℕ) (v w : ℕ) → IsBranching cons base tried vars v → IsBranching cons base tried vars w → v ≡ w
+one_branching cons base tried vars v w a b = elim (compare a.place b.place) [
+  | inl l ↦ absurd (a.undecided (subst (λ u. IsDecidedAt cons base tried u) a.is (b.earlier a.place l)))
+  | inr r ↦ elim r [
+    | inl e ↦ sym a.is ∙ ap (slice_index vars) e ∙ b.is
+    | inr l ↦ absurd (b.undecided (subst (λ u. IsDecidedAt cons base tried u) b.is (a.earlier b.place l)))
+  ]
+]
+
+-- a node with all values branches on nothing
+full_or_fork : {A : Type 0} (cons : List Constraint) (base : ℕ → Order → Type 0) (tried : List (ℕ × Order)) (vars : List ℕ) (values : List Order) (v : ℕ) → HasValues cons base tried vars values → IsBranching cons base tried vars v → A
+full_or_fork cons base tried vars values v h b = absurd (b.undecided (subst (λ u. IsDecidedAt cons base tried u) b.is (_, h.has b.place b.inside)))
+
+same_size : (cons : List Constraint) (base : ℕ → Order → Type 0) (vars : List ℕ) (tried : List (ℕ × Order)) (t u : Tree) → IsTreeAt cons base vars tried t → IsTreeAt cons base vars tried u → length (visits t) ≡ length (visits u)
+same_size cons base vars tried Clash Clash a b = refl
+same_size cons base vars tried Clash (Full values) a b = absurd (b.0 a)
+same_size cons base vars tried Clash (Fork x y) a b = absurd (b.0 a)
+same_size cons base vars tried (Full values) Clash a b = absurd (a.0 b)
+same_size cons base vars tried (Full values) (Full others) a b = refl
+same_size cons base vars tried (Full values) (Fork x y) a (apart, (v, branch, left, right)) = full_or_fork cons base tried vars values v a.1 branch
+same_size cons base vars tried (Fork x y) Clash a b = absurd (a.0 b)
+same_size cons base vars tried (Fork x y) (Full values) (apart, (v, branch, left, right)) b = full_or_fork cons base tried vars values v b.1 branch
+same_size cons base vars tried (Fork x y) (Fork z w) (apart, (v, branch, left, right)) (apart2, (v2, branch2, left2, right2)) =
+    let e : v2 ≡ v = one_branching cons base tried vars v2 v branch2 branch in
+    let below = same_size cons base vars ((v, Below) ∷ tried) x z left (subst (λ n. IsTreeAt cons base vars ((n, Below) ∷ tried) z) e left2) in
+    let above = same_size cons base vars ((v, Above) ∷ tried) y w right (subst (λ n. IsTreeAt cons base vars ((n, Above) ∷ tried) w) e right2) in
+    ap suc (length-append (visits x) (visits y) ∙ ap (λ n. n + length (visits y)) below ∙ ap (λ n. length (visits z) + n) above ∙ sym (length-append (visits z) (visits w)))
+
+-- a tree isn't both within the budget and beyond it
+within_or_beyond : {A : Type 0} (cons : List Constraint) (value : ℕ → Option Order) (budget : ℕ) (part : List ℕ) → EndsWithin cons value budget part → GoesBeyond cons value budget part → A
+within_or_beyond cons value budget part (t, is, within) (u, that, beyond) = absurd (omega (arith, within, beyond, ap (λ n. length part * n) (same_size cons (λ v s. value v ≡ Some s) part [] t u is that)))
+
+pub one_outcome : (cons : List Constraint) (value : ℕ → Option Order) (budget : ℕ) (part : List ℕ) (o p : PartOutcome) → IsOutcome cons value budget part o → IsOutcome cons value budget part p → o ≡ p
+one_outcome cons value budget part (outcome.Solutions l) (outcome.Solutions m) a b = ap outcome.Solutions (a.1 ∙ sym b.1)
+one_outcome cons value budget part (outcome.Solutions l) outcome.None a b = absurd (a.2 (a.1 ∙ b.1))
+one_outcome cons value budget part (outcome.Solutions l) outcome.Unfinished a b = within_or_beyond cons value budget part a.0 b
+one_outcome cons value budget part outcome.None (outcome.Solutions m) a b = absurd (b.2 (b.1 ∙ a.1))
+one_outcome cons value budget part outcome.None outcome.None a b = refl
+one_outcome cons value budget part outcome.None outcome.Unfinished a b = within_or_beyond cons value budget part a.0 b
+one_outcome cons value budget part outcome.Unfinished (outcome.Solutions m) a b = within_or_beyond cons value budget part b.0 a
+one_outcome cons value budget part outcome.Unfinished outcome.None a b = within_or_beyond cons value budget part b.0 a
+one_outcome cons value budget part outcome.Unfinished outcome.Unfinished a b = refl

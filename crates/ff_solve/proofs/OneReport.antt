@@ -1,0 +1,124 @@
+-- Cases that differ at most in the places of their cites have one report.
+use Rattle.std.proofs.Common.{◌≡◌, inl, inr, ℕ, ◌∙◌, Bool, true, false, List, [], ◌++◌, length, slice_get, slice_index_or, Option, Some, None, refl, ap, sym, subst, arith}
+use Rattle.std.proofs.Math.Path.{fun_ext}
+use Rattle.std.proofs.lemmas.Bool.{false≢true}
+use Rattle.std.proofs.lemmas.List.{length-map}
+use Rattle.std.proofs.lemmas.Option.{slice_get_within}
+use Rattle.ff_tables.specs.declared.orders.Order.{Order}
+use Rattle.ff_tables.specs.declared.orders.Order.TheVariants.{Below, Above}
+use Rattle.ff_tables.specs.declared.terms.Constraint.{Constraint}
+use Rattle.ff_tables.specs.declared.givens.Given.{Given}
+use Rattle.ff_types.specs.declared.faces.Faces.{Faces}
+use Rattle.ff_types.specs.declared.faces.Folded.{Folded}
+use Rattle.ff_types.specs.declared.cases.Case.{Case}
+use Rattle.ff_propagate.specs.declared.parts.Part.{Part}
+use Rattle.ff_propagate.specs.Facts.{value_at}
+use Rattle.ff_propagate.specs.Closure.{Clashes, IsClosure, Gives}
+use Rattle.ff_propagate.specs.Parts.{AreParts}
+use Rattle.ff_parts.specs.Lists.{vars_of}
+use Rattle.ff_report.specs.Heads.{lines_of, counts_line, face_of, pair_line}
+use Rattle.ff_report.specs.declared.parts.PartOutcome.{PartOutcome}
+use Rattle.ff_cases.specs.CaseLaws.{AreAlike}
+use Rattle.ff_cases.proofs.Alike.{by_places}
+use Rattle.ff_cases.proofs.Truth.{at_place}
+use Rattle.ff_solve.specs.declared.texts.Last.{Last}
+use Rattle.ff_solve.specs.declared.texts.Last.TheVariants.{Impossible}
+use Rattle.ff_solve.specs.Lines.{last_of, part_at, parts_line, clash_line, last_line, clash_report, board_text}
+use Rattle.ff_solve.specs.Outcomes.{IsOutcome, AreOutcomes}
+use Rattle.ff_solve.specs.Reports.{IsReport, IsClashReport, IsBoardReport}
+use Rattle.ff_solve.specs.Laws.{ReportIsOne}
+use Rattle.ff_solve.proofs.Lists.{vars_at}
+use Rattle.ff_solve.proofs.OneOutcome.{one_outcome}
+use Rattle.ff_solve.proofs.OneParts.{one_parts}
+
+-- the texts by what they depend on
+abbrev board_by : Faces → Folded → List (ℕ × ℕ) → ℕ → (ℕ → Option Order) → List (List ℕ) → List PartOutcome → List ℕ
+board_by faces folded pairs constraints value parts outcomes = (counts_line (length faces.rings) folded.scale (length pairs) constraints ++ lines_of (face_of faces folded) (length faces.rings)
+    ++ lines_of (λ n. pair_line n (slice_index_or pairs n (0, 0)) (value n)) (length pairs)) ++ parts_line (length parts) ++ lines_of (part_at parts outcomes) (length parts) ++ last_line (last_of outcomes)
+
+abbrev clash_by : Faces → Folded → ℕ → ℕ → List ℕ
+clash_by faces folded pairs constraints = (counts_line (length faces.rings) folded.scale pairs constraints ++ lines_of (face_of faces folded) (length faces.rings) ++ []) ++ clash_line ++ last_line Impossible
+
+-- the closures of the same givens have the same values
+same_option : (o p : Option Order) → ((s : Order) → o ≡ Some s → p ≡ Some s) → ((s : Order) → p ≡ Some s → o ≡ Some s) → o ≡ p
+same_option None None f g = refl
+same_option None (Some s) f g = g s refl
+same_option (Some s) p f g = sym (f s refl)
+
+one_closure : (cons : List Constraint) (starts : List Given) (value other : ℕ → Option Order) → IsClosure cons (Gives starts) value → IsClosure cons (Gives starts) other → value ≡ other
+one_closure cons starts value other a b = fun_ext (λ v. same_option (value v) (other v) (λ s e. (b v s).1 ((a v s).0 e)) (λ s e. (a v s).1 ((b v s).0 e)))
+
+clash_or_closure : {A : Type 0} (cons : List Constraint) (starts : List Given) (value : ℕ → Option Order) → Clashes cons (Gives starts) → IsClosure cons (Gives starts) value → A
+clash_or_closure {A} cons starts value c is = apart (sym ((is c.variable Below).1 c.below) ∙ (is c.variable Above).1 c.above) where
+  apart : Some Below ≡ Some Above → A
+  apart e = absurd (false≢true (ap is_above e)) where
+    is_above : Option Order → Bool
+    is_above (Some Above) = true
+    is_above _ = false
+
+-- the searches of the same parts come to the same
+same_outcomes : (cons : List Constraint) (value : ℕ → Option Order) (budget : ℕ) (ps qs : List Part) (os rs : List PartOutcome) → vars_of ps ≡ vars_of qs
+    → AreOutcomes cons value budget ps os → AreOutcomes cons value budget qs rs → os ≡ rs
+same_outcomes cons value budget ps qs os rs e a b = by_places os rs long each where
+  as_many : length ps ≡ length qs
+  as_many = sym (length-map ps (λ (p : Part). p.vars)) ∙ ap length e ∙ length-map qs (λ (p : Part). p.vars)
+
+  long : length os ≡ length rs
+  long = a.as_many ∙ as_many ∙ sym b.as_many
+
+  each : (n : ℕ) (x y : PartOutcome) → slice_get os n ≡ Some x → slice_get rs n ≡ Some y → x ≡ y
+  each n x y i j =
+      let p = at_place ps n (let l = slice_get_within os n x i in omega (arith, l, a.as_many)) in
+      let q = at_place qs n (let l = slice_get_within rs n y j in omega (arith, l, b.as_many)) in
+      let same : p.0.vars ≡ q.0.vars = the (sym (vars_at ps n p.0 p.1) ∙ ap (λ l. slice_get l n) e ∙ vars_at qs n q.0 q.1) in
+      one_outcome cons value budget q.0.vars x y (subst (λ vs. IsOutcome cons value budget vs x) same (a.each n p.0 x p.1 i)) (b.each n q.0 y q.1 j) where
+        the : {v w : List ℕ} → Some v ≡ Some w → v ≡ w
+        the q = cc
+
+module _ (faces : Faces) (folded : Folded) (case other : Case) (budget : ℕ) (l m : Last) (t u : List ℕ) (alike : AreAlike case other) where
+  clash_clash : IsClashReport faces folded case l t → IsClashReport faces folded other m u → (l ≡ m) × (t ≡ u)
+  clash_clash a b = (a.ends ∙ sym b.ends, a.is ∙ texts ∙ sym b.is) where
+    texts : clash_report faces folded case ≡ clash_report faces folded other
+    texts = ap (λ n. clash_by faces folded n (length case.system.constraints)) (ap length alike.pairs) ∙ ap (λ n. clash_by faces folded (length other.pairs) n) (ap length alike.constraints)
+
+  closure_there : (value : ℕ → Option Order) → IsClosure case.system.constraints (Gives case.starts) value → IsClosure other.system.constraints (Gives other.starts) value
+  closure_there value is = subst (λ (cs : List Constraint). IsClosure cs (Gives other.starts) value) alike.constraints (subst (λ (gs : List Given). IsClosure case.system.constraints (Gives gs) value) alike.starts is)
+
+  clashes_there : Clashes case.system.constraints (Gives case.starts) → Clashes other.system.constraints (Gives other.starts)
+  clashes_there c = subst (λ (cs : List Constraint). Clashes cs (Gives other.starts)) alike.constraints (subst (λ (gs : List Given). Clashes case.system.constraints (Gives gs)) alike.starts c)
+
+  board_board : IsBoardReport faces folded case budget l t → IsBoardReport faces folded other budget m u → (l ≡ m) × (t ≡ u)
+  board_board a b = (a.ends ∙ ap last_of outcomes ∙ sym b.ends, a.is ∙ texts ∙ sym b.is) where
+    values : value_at a.facts ≡ value_at b.facts
+    values = one_closure other.system.constraints other.starts (value_at a.facts) (value_at b.facts) (closure_there (value_at a.facts) a.closure) b.closure
+
+    parts_there : AreParts other.system.vars other.system.constraints (value_at b.facts) (vars_of a.parts)
+    parts_there = subst (λ (n : ℕ). AreParts n other.system.constraints (value_at b.facts) (vars_of a.parts)) alike.vars
+        (subst (λ (cs : List Constraint). AreParts case.system.vars cs (value_at b.facts) (vars_of a.parts)) alike.constraints
+        (subst (λ (v : ℕ → Option Order). AreParts case.system.vars case.system.constraints v (vars_of a.parts)) values a.parts_are))
+
+    parts : vars_of a.parts ≡ vars_of b.parts
+    parts = one_parts other.system.vars other.system.constraints (value_at b.facts) (vars_of a.parts) (vars_of b.parts) parts_there b.parts_are
+
+    outcomes_there : AreOutcomes other.system.constraints (value_at b.facts) budget a.parts a.outcomes
+    outcomes_there = subst (λ (cs : List Constraint). AreOutcomes cs (value_at b.facts) budget a.parts a.outcomes) alike.constraints
+        (subst (λ (v : ℕ → Option Order). AreOutcomes case.system.constraints v budget a.parts a.outcomes) values a.outcomes_are)
+
+    outcomes : a.outcomes ≡ b.outcomes
+    outcomes = same_outcomes other.system.constraints (value_at b.facts) budget a.parts b.parts a.outcomes b.outcomes parts outcomes_there b.outcomes_are
+
+    texts : board_text faces folded case a.facts (vars_of a.parts) a.outcomes ≡ board_text faces folded other b.facts (vars_of b.parts) b.outcomes
+    texts = ap (λ ps. board_by faces folded ps (length case.system.constraints) (value_at a.facts) (vars_of a.parts) a.outcomes) alike.pairs
+        ∙ ap (λ cs. board_by faces folded other.pairs (length cs) (value_at a.facts) (vars_of a.parts) a.outcomes) alike.constraints
+        ∙ ap (λ v. board_by faces folded other.pairs (length other.system.constraints) v (vars_of a.parts) a.outcomes) values
+        ∙ ap (λ vs. board_by faces folded other.pairs (length other.system.constraints) (value_at b.facts) vs a.outcomes) parts
+        ∙ ap (λ os. board_by faces folded other.pairs (length other.system.constraints) (value_at b.facts) (vars_of b.parts) os) outcomes
+
+  pub one_report : IsReport faces folded case budget l t → IsReport faces folded other budget m u → (l ≡ m) × (t ≡ u)
+  one_report (inl a) (inl b) = clash_clash a b
+  one_report (inl a) (inr b) = clash_or_closure other.system.constraints other.starts (value_at b.facts) (clashes_there a.clashes) b.closure
+  one_report (inr a) (inl b) = clash_or_closure other.system.constraints other.starts (value_at a.facts) b.clashes (closure_there (value_at a.facts) a.closure)
+  one_report (inr a) (inr b) = board_board a b
+
+pub report_is_one : ReportIsOne
+report_is_one faces folded case other budget l m t u alike a b = one_report faces folded case other budget l m t u alike a b

@@ -1,0 +1,30 @@
+-- Laws of reports. This project's own.
+use Rattle.std.specs.Prelude.{◌≡◌, ℕ, Bool, List, Option}
+use Rattle.ff_tables.specs.declared.orders.Order.{Order}
+use Rattle.ff_types.specs.declared.faces.Faces.{Faces}
+use Rattle.ff_types.specs.declared.faces.Folded.{Folded}
+use Rattle.ff_types.specs.declared.cases.Case.{Case}
+use Rattle.ff_types.specs.Sheets.{Sheet}
+use Rattle.ff_types.specs.Cases.{IsCaseOf}
+use Rattle.ff_types.specs.Assignments.{IsTrueTo}
+use Rattle.ff_propagate.specs.Closure.{Clashes, Gives}
+use Rattle.ff_parts.specs.Factors.{Factors}
+use Rattle.ff_cases.specs.CaseLaws.{AreAlike}
+use Rattle.ff_solve.specs.declared.texts.Last.{Last}
+use Rattle.ff_solve.specs.Choices.{IsKept, AreStackings}
+use Rattle.ff_solve.specs.Reports.{IsReport}
+
+-- Of the report of a board, choices of one solution of each part correspond one-to-one to the stackings of the sheet that
+-- keep the creases; where the closure clashes there is none.
+abbrev pub ChoicesAreStackings : Type 0
+ChoicesAreStackings = (g : Sheet) (case : Case) → IsCaseOf g case → IsTrueTo g case → (value : ℕ → Option Order) (parts : List (List ℕ))
+    → Factors case.system.vars case.system.constraints case.starts value parts → AreStackings g case value parts
+
+abbrev pub ClashHasNone : Type 0
+ClashHasNone = (g : Sheet) (case : Case) → IsTrueTo g case → Clashes case.system.constraints (Gives case.starts)
+    → (above : ℕ → ℕ → Bool) → IsKept g above → ⊥
+
+-- Cases that differ at most in the places of their cites have one report.
+abbrev pub ReportIsOne : Type 0
+ReportIsOne = (faces : Faces) (folded : Folded) (case other : Case) (budget : ℕ) (l m : Last) (t u : List ℕ) → AreAlike case other
+    → IsReport faces folded case budget l t → IsReport faces folded other budget m u → (l ≡ m) × (t ≡ u)

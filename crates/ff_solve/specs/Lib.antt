@@ -1,0 +1,5 @@
+pub mod Lines
+pub mod Outcomes
+pub mod Reports
+pub mod Choices
+pub mod Laws

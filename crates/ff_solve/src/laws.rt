@@ -1,0 +1,14 @@
+//! Laws of reports.
+ghost use Rattle.ff_solve.specs.Laws.{ChoicesAreStackings, ClashHasNone, ReportIsOne};
+
+/// Cases that differ at most in the places of their cites have one report.
+pub fn report_is_one()
+    ensures { ReportIsOne }
+{}
+
+/// Choices of one solution of each part correspond one-to-one to the geometric stackings that keep the creases. Where
+/// the closure clashes there is none.
+pub fn stackings_are_choices()
+    ensures choices { ChoicesAreStackings }
+    ensures clash { ClashHasNone }
+{}

@@ -1,0 +1,11 @@
+//! The report of a folded crease pattern: its head, its parts and their solutions, within a budget of turns.
+#![tactic(auto)]
+
+mod laws;
+mod outcomes;
+mod reports;
+mod texts;
+
+pub use laws::{report_is_one, stackings_are_choices};
+pub use reports::{Report, report_of};
+pub use texts::{Last, clash_text, last_text, parts_text};

@@ -1,0 +1,48 @@
+//! The lines of a report besides its head and its parts.
+ghost use Rattle.std.specs.Prelude.{◌≡◌, ◌++◌, IfOk, OnOk, string_bytes};
+ghost use Rattle.ff_solve.specs.Lines.{clash_line, parts_line, last_line};
+
+use ff_tables::{NoMemory, Text};
+use std::alloc::{AllocError, Global};
+
+/// How a report ends: all parts are finished, no stacking keeps the creases, or some part isn't finished.
+#[derive(Clone, Copy, Debug, PartialEq, Eq)]
+pub enum Last {
+    Done,
+    Impossible,
+    Unfinished,
+}
+
+fn push_parts(text: &mut String, count: u32) -> Result<(), AllocError>
+    ensures { OnOk result (string_bytes text.new ≡ string_bytes text.old ++ parts_line count) }
+{
+    write!(text, "parts {count}\n")
+}
+
+/// The line that counts the independent parts.
+pub fn parts_text(alloc: Global, count: u32) -> Result<Text, NoMemory>
+    ensures { IfOk result (λ text. text ≡ parts_line count) }
+{
+    let mut text = String::new(alloc);
+    push_parts(&mut text, count)?;
+    Ok(Text::of(text))
+}
+
+/// The line where the closure clashes.
+pub fn clash_text(alloc: Global) -> Result<Text, NoMemory>
+    ensures { IfOk result (λ text. text ≡ clash_line) }
+{
+    Ok(Text::of(String::from_str(alloc, "clash\n")?))
+}
+
+/// The last line of a report.
+pub fn last_text(alloc: Global, last: Last) -> Result<Text, NoMemory>
+    ensures { IfOk result (λ text. text ≡ last_line last) }
+{
+    let line = match last {
+        Last::Done => "done\n",
+        Last::Impossible => "impossible\n",
+        Last::Unfinished => "unfinished\n",
+    };
+    Ok(Text::of(String::from_str(alloc, line)?))
+}

@@ -1,0 +1,11 @@
+pub mod OneSide
+pub mod Growing
+pub mod Rising
+pub mod Keys
+pub mod Flags
+pub mod Sorting
+pub mod Numbered
+pub mod Families
+pub mod Given
+pub mod Orders
+pub mod Whole

@@ -1,0 +1,13 @@
+use Rattle.std.proofs.Common.{◌≡◌, ◌≤◌, ◌++◌, length, take}
+use Rattle.ff_types.specs.Sheets.{sheet_of}
+use Rattle.ff_listed.specs.declared.limits.TheConstants.{MOST_CONSTRAINTS}
+use Rattle.ff_tacos.specs.Making.{given, flat_edge}
+use Rattle.ff_tacos.proofs.passes.append_flat_edges.Given as goal
+
+abbrev pub invariant-loop-i : goal.invariant-loop-i
+invariant-loop-i l = record {
+  appended : l.list ≡ l.initial.list
+      ++ given (sheet_of l.pattern l.faces l.folded) l.pairs (flat_edge (sheet_of l.pattern l.faces l.folded))
+      (take l.i l.edge_pairs);
+  few : length l.list ≤ MOST_CONSTRAINTS;
+}

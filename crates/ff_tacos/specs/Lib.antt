@@ -1,0 +1,2 @@
+pub mod Tacos
+pub mod Making

@@ -1,0 +1,12 @@
+//! The constraints of a folded sheet that rest on edges: taco-taco, taco-tortilla and tortilla-tortilla.
+#![tactic(auto)]
+
+mod append;
+mod beside;
+mod constraints;
+mod listing;
+mod mixed;
+mod passes;
+mod sides;
+
+pub use listing::tacos;

@@ -1,0 +1,172 @@
+-- The triples that were found are those of each sheet whose face sets the cells have.
+use Rattle.std.proofs.Common.{◌≡◌, ℕ, ◌+◌, ◌<◌, ◌≤◌, inl, refl, sym, ap, ◌∙◌, subst, arith, Bool, true, false, ◌&&◌, IsTrue, List, [], ◌∷◌, ◌++◌, length, get_or, slice_get, Some}
+use Rattle.std.specs.List.{All, Contains, list_all}
+use Rattle.std.proofs.lemmas.Bool.{ltb-true, false≢true}
+use Rattle.std.proofs.lemmas.List.{length_push}
+use Rattle.std.proofs.lemmas.Option.{slice_get_within, slice_get-get_or, get_or_from_slice_get}
+use Rattle.ff_whole.specs.declared.places.Place.{Place}
+use Rattle.ff_types.specs.declared.cites.Cite.{Cite}
+use Rattle.ff_types.specs.declared.cites.Cite.TheVariants.{Transitivity}
+use Rattle.ff_types.specs.declared.cites.Listed.{Listed}
+use Rattle.ff_types.specs.declared.refusals.No.{No}
+use Rattle.ff_types.specs.declared.refusals.No.TheVariants.{Refused, NoMemory}
+use Rattle.ff_types.specs.Sheets.{Sheet, faces_of, is_face}
+use Rattle.ff_types.specs.Inside.{is_inside, over, HaveCommon}
+use Rattle.ff_types.specs.Witnesses.{IsWitness, witness_face}
+use Rattle.ff_types.specs.Cites.{Holds, Witnessed, HasSmallPlaces}
+use Rattle.ff_types.specs.Cases.{IsConstraintOf}
+use Rattle.ff_types.proofs.Computing.{both}
+use Rattle.ff_types.proofs.Memberships.{no_member, by_member, in_filter, filter_in, range_in}
+use Rattle.ff_cells.specs.declared.cell.Cell.{Cell}
+use Rattle.ff_cells.specs.FaceSets.{HaveFaceSets}
+use Rattle.ff_pairs.specs.Together.{AreTogether, ArePairsOf}
+use Rattle.ff_listed.specs.Splitting.{IsFull}
+use Rattle.ff_trans.specs.Triples.{HasThree, HasCite, IsTriple, AreSomeTriples, AreWitnessed, AreTriples, AreNoTriples}
+use Rattle.ff_types.specs.Pairs.{pair_at}
+use Rattle.ff_trans.specs.Rows.{IsListedBefore, IsListedTo, IsFirst}
+use Rattle.ff_trans.proofs.Lists.{row_takes}
+
+-- ---- tests of members
+
+all_of : {A : Type 0} (p : A → Bool) (l : List A) → IsTrue (list_all p l) → (x : A) → Contains l x → IsTrue (p x)
+all_of p [] t x c = absurd (no_member x c)
+all_of p (y ∷ l) t x c = by_member y l x (λ e. subst (λ z. IsTrue (p z)) e (both (p y) (list_all p l) t).0) (λ n. all_of p l (both (p y) (list_all p l) t).1 x n) c
+
+of_three : {A : Type 0} (p : A → Bool) (x y z : A) → IsTrue (p x) → IsTrue (p y) → IsTrue (p z) → IsTrue (list_all p (x ∷ y ∷ z ∷ []))
+of_three p x y z a b c = join (p x) _ a (join (p y) _ b (join (p z) true c refl)) where
+  join : (a b : Bool) → IsTrue a → IsTrue b → IsTrue (a && b)
+  join true b s t = t
+  join false b s t = absurd (false≢true s)
+
+over_has : (g : Sheet) (s : Place) (f : ℕ) → IsTrue (is_inside g f s) → Contains (over g s) f
+over_has g s f t = filter_in (λ f. is_inside g f s) (faces_of g) f (range_in 0 (length g.rings) f (omega arith) (let l = ltb-true f (length g.rings) (both (is_face g f) _ t).0 in omega (arith, l))) t
+
+some_in : (xs : List ℕ) (f : ℕ) → Contains xs f → 0 < length xs
+some_in xs f (k, l, e) = omega (arith, l)
+
+-- ---- one triple
+
+listed_cell : (cells : List Cell) (i : ℕ) (c : Cell) → slice_get cells i ≡ Some c → Contains cells c
+listed_cell cells i c e = (i, slice_get_within cells i c e, get_or_from_slice_get cells i c c e)
+
+pub cell_listed : (cells : List Cell) (c : Cell) → Contains cells c → (i : ℕ) × (slice_get cells i ≡ Some c)
+cell_listed cells c (i, l, e) = (i, slice_get-get_or cells i c l ∙ ap Some e)
+
+module _ (g : Sheet) (cells : List Cell) (have : HaveFaceSets g cells) where
+  -- three faces of a cell have a common place, and its corners witness it
+  inside_cell : (c : Cell) (m : Contains cells c) (f : ℕ) → Contains c.faces f → IsTrue (is_inside g f (have.each c m).faces.at)
+  inside_cell c m f n = (in_filter (λ f. is_inside g f (have.each c m).faces.at) (faces_of g) f (subst (λ xs. Contains xs f) (have.each c m).faces.same n)).1
+
+  holds : (c : Cite) → IsTriple cells c → Holds g c
+  holds c t = subst (Holds g) (sym t.cite) (t.low, t.high, record { at = (have.each t.has.cell m).faces.at; place = (have.each t.has.cell m).faces.place; inside = of_three (λ f. is_inside g f (have.each t.has.cell m).faces.at) t.f t.h t.k (inside_cell t.has.cell m t.f t.has.first) (inside_cell t.has.cell m t.h t.has.second) (inside_cell t.has.cell m t.k t.has.third) }) where
+    m : Contains cells t.has.cell
+    m = listed_cell cells t.place t.has.cell t.has.there
+
+  witnessed : (c : Cite) → IsTriple cells c → Witnessed g c
+  witnessed c t = subst (Witnessed g) (sym t.cite) (t.low, t.high, record { are_places = w.are_places; witness = of_three (witness_face g t.has.cell.at) t.f t.h t.k (each t.f t.has.first) (each t.h t.has.second) (each t.k t.has.third) }) where
+    w : IsWitness g t.has.cell.faces t.has.cell.at
+    w = (have.each t.has.cell (listed_cell cells t.place t.has.cell t.has.there)).witness
+
+    each : (f : ℕ) → Contains t.has.cell.faces f → IsTrue (witness_face g t.has.cell.at f)
+    each f n = all_of (witness_face g t.has.cell.at) t.has.cell.faces w.witness f n
+
+  small : (c : Cite) → IsTriple cells c → HasSmallPlaces c
+  small c t = subst HasSmallPlaces (sym t.cite) (have.each t.has.cell (listed_cell cells t.place t.has.cell t.has.there)).small
+
+  pub are_witnessed : (list : List Listed) → ((n : ℕ) (l : Listed) → slice_get list n ≡ Some l → IsTriple cells l.cite) → AreWitnessed g list
+  are_witnessed list each = record {
+    witnessed = λ n l e. witnessed l.cite (each n l e);
+    holds = λ n l e. holds l.cite (each n l e);
+    small = λ n l e. small l.cite (each n l e);
+  }
+
+  -- faces with a common place stand together in a cell
+  pub together : (f h k : ℕ) → HaveCommon g (f ∷ h ∷ k ∷ []) → (i : ℕ) × HasThree cells i f h k
+  together f h k o = (at.0, record { cell = r.0; there = at.1; first = r.2 f in_f; second = r.2 h in_h; third = r.2 k in_k }) where
+    tests : IsTrue (is_inside g f o.at) × IsTrue (list_all (λ f. is_inside g f o.at) (h ∷ k ∷ []))
+    tests = both (is_inside g f o.at) _ o.inside
+
+    rest : IsTrue (is_inside g h o.at) × IsTrue (list_all (λ f. is_inside g f o.at) (k ∷ []))
+    rest = both (is_inside g h o.at) _ tests.1
+
+    in_f : Contains (over g o.at) f
+    in_f = over_has g o.at f tests.0
+
+    in_h : Contains (over g o.at) h
+    in_h = over_has g o.at h rest.0
+
+    in_k : Contains (over g o.at) k
+    in_k = over_has g o.at k (both (is_inside g k o.at) true rest.1).0
+
+    r : (c : Cell) × Contains cells c × ((f : ℕ) → Contains (over g o.at) f → Contains c.faces f)
+    r = have.together o.at o.place (some_in (over g o.at) f in_f)
+
+    at : (i : ℕ) × (slice_get cells i ≡ Some r.0)
+    at = cell_listed cells r.0 r.1
+
+-- ---- the lists
+
+module _ (cells : List Cell) (pairs : List (ℕ × ℕ)) (are : ArePairsOf cells pairs) where
+  triple_of : (n k : ℕ) (l : Listed) → IsListedBefore cells pairs n k l → IsTriple cells l.cite
+  triple_of n k l b = record { f = b.f; h = b.h; k = b.third; low = are.sorted.rising b.number (b.f, b.h) b.pair; high = b.above; place = b.place; has = b.has; first = b.first; cite = b.cite }
+
+  some_triples : (n k : ℕ) (list : List Listed) → IsListedTo cells pairs n k list → AreSomeTriples cells pairs list
+  some_triples n k list s = record {
+    each = λ m l e. triple_of n k l (s.only m l e);
+    constraints_are = λ m l e. (s.only m l e).constraint;
+    sorted = s.sorted;
+  }
+
+  pair_number : (i f h k : ℕ) → f < h → HasThree cells i f h k → (n : ℕ) × (slice_get pairs n ≡ Some (f, h))
+  pair_number i f h k lt t = (are.pairs_are f h lt).0 (record { cell = t.cell; there = listed_cell cells i t.cell t.there; first = t.first; second = t.second })
+
+  pub first_third : (i f h k : ℕ) → f < k → HasThree cells i f h k → (n : ℕ) × (slice_get pairs n ≡ Some (f, k))
+  first_third i f h k lt t = (are.pairs_are f k lt).0 (record { cell = t.cell; there = listed_cell cells i t.cell t.there; first = t.first; second = t.third })
+
+  pub second_third : (i f h k : ℕ) → h < k → HasThree cells i f h k → (n : ℕ) × (slice_get pairs n ≡ Some (h, k))
+  second_third i f h k lt t = (are.pairs_are h k lt).0 (record { cell = t.cell; there = listed_cell cells i t.cell t.there; first = t.second; second = t.third })
+
+  pub triples_are : (n : ℕ) (list : List Listed) → length pairs ≤ n → IsListedTo cells pairs n 0 list → AreTriples cells pairs list
+  triples_are n list far s = record {
+    some = some_triples n 0 list s;
+    witnessed = λ g have. are_witnessed g cells have list (some_triples n 0 list s).each;
+    all = all;
+    complete = λ g have f h k at t. (let r = together g cells have f h k t.2 in all f h k t.0 t.1 r.0 r.1);
+  } where
+    all : (f h k : ℕ) → f < h → h < k → (i : ℕ) → HasThree cells i f h k → HasCite list (0 ∷ f ∷ h ∷ k ∷ [])
+    all f h k low high i t =
+        let p = pair_number i f h k low t in
+        let l = slice_get_within pairs p.0 (f, h) p.1 in
+        s.all p.0 f h k i p.1 high t (inl (omega (arith, l, far)))
+
+  pub too_many : (n k : ℕ) (list : List Listed) (x : Listed) → IsListedTo cells pairs n k (list ++ x ∷ []) → (no : No) → IsFull (length list) no → AreNoTriples cells pairs no
+  too_many n k list x s NoMemory full = tt
+  too_many n k list x s (Refused r) full =
+      let one = length_push list x in
+      let many = full.1 in
+      let some = some_triples n k (list ++ x ∷ []) s in
+      (full.0, (list ++ x ∷ [], some, omega (arith, one, many), λ g have. are_witnessed g cells have (list ++ x ∷ []) some.each))
+
+  -- the faces of a pair are below what is above the faces of the cells
+  pub pair_below : (w n f h : ℕ) → All (λ c. All (λ f. f < w) c.faces) cells → slice_get pairs n ≡ Some (f, h) → (f < w) × (h < w)
+  pair_below w n f h below e = by ((are.pairs_are f h (are.sorted.rising n (f, h) e)).1 (n, e)) where
+    face_below : (c : Cell) (f : ℕ) → Contains cells c → Contains c.faces f → f < w
+    face_below c f (k, l, e) (i, m, d) = subst (λ x. x < w) d (subst (λ (z : Cell). All (λ f. f < w) z.faces) e (below k c l) i f m)
+
+    by : AreTogether cells f h → (f < w) × (h < w)
+    by t = (face_below t.cell f t.there t.first, face_below t.cell h t.there t.second)
+
+  pub third_below : (w i f h k : ℕ) → All (λ c. All (λ f. f < w) c.faces) cells → HasThree cells i f h k → k < w
+  third_below w i f h k below t = by (listed_cell cells i t.cell t.there) t.third where
+    by : Contains cells t.cell → Contains t.cell.faces k → k < w
+    by (j, l, e) (m, b, d) = subst (λ x. x < w) d (subst (λ (z : Cell). All (λ f. f < w) z.faces) e (below j t.cell l) m k b)
+
+-- one triple is appended
+pub one_more : (cells : List Cell) (pairs : List (ℕ × ℕ)) → ArePairsOf cells pairs → (n k : ℕ) (list : List Listed) (x : Listed) (p : ℕ × ℕ) → slice_get pairs n ≡ Some p → n < length pairs
+    → (pair_at pairs n).1 < k → (i : ℕ) (c : Cell) → c ≡ get_or cells i c → IsFirst cells (pair_at pairs n).0 (pair_at pairs n).1 k (Some i)
+    → x.cite ≡ Transitivity p.0 p.1 k c.at → ((g : Sheet) → IsConstraintOf g pairs x.cite x.constraint) → IsListedTo cells pairs n k list → IsListedTo cells pairs n (k + 1) (list ++ x ∷ [])
+one_more cells pairs are n k list x p e within above i c read found cite constraint s =
+    row_takes cells pairs are.sorted n k list x within above i found.0 found.1 (cite ∙ ap (λ (z : ℕ × ℕ). Transitivity z.0 z.1 k c.at) (sym (get_or_from_slice_get pairs n p (0, 0) e)) ∙ ap (λ (z : Cell). Transitivity (pair_at pairs n).0 (pair_at pairs n).1 k z.at) same) constraint s
+  where
+    same : c ≡ found.0.cell
+    same = read ∙ get_or_from_slice_get cells i found.0.cell c found.0.there

@@ -1,0 +1,5 @@
+pub mod Marks
+pub mod Indexes
+pub mod Keys
+pub mod Lists
+pub mod Found

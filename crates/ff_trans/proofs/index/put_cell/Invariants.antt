@@ -1,0 +1,5 @@
+use Rattle.ff_trans.specs.Rows.{lists_in, IsPut}
+use Rattle.ff_trans.proofs.index.put_cell.Given as goal
+
+abbrev pub invariant-loop-j : goal.invariant-loop-j
+invariant-loop-j l = IsPut l.faces l.j l.cell (lists_in l.fn.lists) (lists_in l.lists)
