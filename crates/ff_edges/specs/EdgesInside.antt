@@ -16,7 +16,7 @@ use Rattle.ff_types.specs.Witnesses.{IsWitness}
 use Rattle.ff_types.specs.Cites.{is_folded_edge, is_flat_edge}
 use Rattle.ff_types.specs.Segments.{HasEdgeInside}
 use Rattle.ff_edges.specs.declared.edge_face.EdgeFace.{EdgeFace}
-use Rattle.ff_edges.specs.declared.limits.TheConstants.{MOST_CONSTRAINTS}
+use Rattle.ff_types.specs.declared.limits.TheConstants.{MOST_CONSTRAINTS}
 use Rattle.ff_edges.specs.Listing.{HasKey, AreInOrder, IsListedTo}
 
 -- marked M, V, U or F: any edge but a border edge

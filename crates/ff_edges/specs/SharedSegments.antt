@@ -8,7 +8,7 @@ use Rattle.ff_types.specs.Sheets.{Sheet, tail, head}
 use Rattle.ff_types.specs.Cites.{is_folded_edge, is_flat_edge, lesser, greater, on_one_side}
 use Rattle.ff_types.specs.Segments.{ShareSegment}
 use Rattle.ff_edges.specs.declared.edge_pair.EdgePair.{EdgePair}
-use Rattle.ff_edges.specs.declared.limits.TheConstants.{MOST_CONSTRAINTS}
+use Rattle.ff_types.specs.declared.limits.TheConstants.{MOST_CONSTRAINTS}
 use Rattle.ff_edges.specs.Ways.{IsCommonWay}
 use Rattle.ff_edges.specs.Listing.{HasKey, AreInOrder, IsListedTo}
 

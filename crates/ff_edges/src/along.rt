@@ -2,7 +2,7 @@
 ghost use Rattle.std.specs.Prelude.{◌<◌, ◌+◌, ◌≤◌, length, IfOk, IfErr, OnOk};
 ghost use Rattle.ff_types.specs.FoldedPatterns.{IsFoldedPattern};
 ghost use Rattle.ff_types.specs.Sheets.{sheet_of};
-ghost use Rattle.ff_edges.specs.declared.limits.TheConstants.{MOST_CONSTRAINTS as most_constraints};
+ghost use Rattle.ff_types.specs.declared.limits.TheConstants.{MOST_CONSTRAINTS as most_constraints};
 ghost use Rattle.ff_edges.specs.SharedSegments.{ArePairsTo, AreEdgePairs, AreNoEdgePairs};
 
 use crate::EdgePair;

@@ -3,11 +3,10 @@ ghost use Rattle.std.specs.Prelude.{◌≡◌, ◌++◌, ◌∷◌, [], ◌≤�
 ghost use Rattle.ff_types.specs.declared.refusals.No.TheVariants.{Refused};
 ghost use Rattle.ff_types.specs.declared.refusals.Refusal.TheVariants.{TooMany};
 ghost use Rattle.ff_types.specs.declared.refusals.What.TheVariants.{Constraints};
-ghost use Rattle.ff_edges.specs.declared.limits.TheConstants.{MOST_CONSTRAINTS as most_constraints};
+ghost use Rattle.ff_types.specs.declared.limits.TheConstants.{MOST_CONSTRAINTS as most_constraints};
 ghost use Rattle.ff_edges.specs.SharedSegments.{IsFull};
 
-use crate::MOST_CONSTRAINTS;
-use ff_types::{No, Refusal, What};
+use ff_types::{MOST_CONSTRAINTS, No, Refusal, What};
 
 fn too_many() -> No
     ensures { result ≡ Refused (TooMany Constraints most_constraints) }

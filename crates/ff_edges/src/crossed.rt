@@ -6,7 +6,7 @@ ghost use Rattle.ff_types.specs.Foldings.{is_up};
 ghost use Rattle.ff_types.specs.FoldedPatterns.{IsFoldedPattern};
 ghost use Rattle.ff_types.specs.Sheets.{sheet_of};
 ghost use Rattle.ff_types.specs.Segments.{HasEdgeInside};
-ghost use Rattle.ff_edges.specs.declared.limits.TheConstants.{MOST_CONSTRAINTS as most_constraints};
+ghost use Rattle.ff_types.specs.declared.limits.TheConstants.{MOST_CONSTRAINTS as most_constraints};
 ghost use Rattle.ff_edges.specs.Clips.{IsPartInside, IsNoneInside};
 ghost use Rattle.ff_edges.specs.EdgesInside.{is_inner_edge, IsEdgeFace, AreFacesTo, AreEdgeFaces, AreNoEdgeFaces};
 

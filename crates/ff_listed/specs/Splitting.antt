@@ -7,7 +7,7 @@ use Rattle.ff_types.specs.declared.refusals.No.{No}
 use Rattle.ff_types.specs.declared.refusals.No.TheVariants.{Refused, NoMemory}
 use Rattle.ff_types.specs.declared.refusals.Refusal.TheVariants.{TooMany}
 use Rattle.ff_types.specs.declared.refusals.What.TheVariants.{Constraints}
-use Rattle.ff_listed.specs.declared.limits.TheConstants.{MOST_CONSTRAINTS}
+use Rattle.ff_types.specs.declared.limits.TheConstants.{MOST_CONSTRAINTS}
 
 -- each constraint with the cite at its place
 abbrev pub listed_of : List Constraint → List Cite → List Listed

@@ -3,12 +3,11 @@ ghost use Rattle.std.specs.Prelude.{◌≡◌, ◌++◌, ◌∷◌, [], ◌<◌,
 ghost use Rattle.ff_types.specs.declared.refusals.No.TheVariants.{Refused};
 ghost use Rattle.ff_types.specs.declared.refusals.Refusal.TheVariants.{TooMany};
 ghost use Rattle.ff_types.specs.declared.refusals.What.TheVariants.{Constraints};
-ghost use Rattle.ff_listed.specs.declared.limits.TheConstants.{MOST_CONSTRAINTS as most_constraints};
+ghost use Rattle.ff_types.specs.declared.limits.TheConstants.{MOST_CONSTRAINTS as most_constraints};
 ghost use Rattle.ff_listed.specs.Splitting.{listed_of, constraint_of, cite_of, IsFull};
 
-use crate::MOST_CONSTRAINTS;
 use ff_tables::{Constraint, Items, NoMemory};
-use ff_types::{Cite, Listed, No, Refusal, What};
+use ff_types::{Cite, Listed, MOST_CONSTRAINTS, No, Refusal, What};
 use std::alloc::Global;
 use std::marker::Model;
 

@@ -16,11 +16,11 @@ fn cell(alloc: Global, faces: &[u32]) -> Result<Cell, NoMemory> {
 }
 
 // The pairs, where the faces are in order.
-fn tried(alloc: Global, cells: &Items<Cell>) -> Result<Pairs, No> {
+fn tried(alloc: Global, cells: &Items<Cell>) -> Option<Result<Pairs, No>> {
     if !are_face_lists(cells.as_slice()) {
-        return Err(No::Refused(Refusal::NotYet));
+        return None;
     }
-    pairs(alloc, cells)
+    Some(pairs(alloc, cells))
 }
 
 #[test]
@@ -33,7 +33,7 @@ fn faces_that_stand_together(rt: HostRuntime) -> Result<(), Fail> {
     list.push(cell(alloc, &[1, 7])?)?;
     let cells = Items::of(list);
     match tried(alloc, &cells) {
-        Ok(found) => {
+        Some(Ok(found)) => {
             assert_eq!(rt; found.count(), 4);
             assert_eq!(rt; found.number(0, 1), Some(0));
             assert_eq!(rt; found.number(2, 0), Some(1));
@@ -43,7 +43,7 @@ fn faces_that_stand_together(rt: HostRuntime) -> Result<(), Fail> {
             assert_eq!(rt; found.number(0, 3), None);
             assert_eq!(rt; found.number(0, 7), None);
         }
-        Err(_) => return Err(Fail::from("no pairs")),
+        _ => return Err(Fail::from("no pairs")),
     }
     Ok(())
 }
@@ -55,8 +55,8 @@ fn no_pairs_over_one_face(rt: HostRuntime) -> Result<(), Fail> {
     list.push(cell(alloc, &[0])?)?;
     let cells = Items::of(list);
     match tried(alloc, &cells) {
-        Ok(found) => assert_eq!(rt; found.count(), 0),
-        Err(_) => return Err(Fail::from("no pairs")),
+        Some(Ok(found)) => assert_eq!(rt; found.count(), 0),
+        _ => return Err(Fail::from("no pairs")),
     }
     Ok(())
 }
@@ -77,19 +77,19 @@ fn too_many_pairs(rt: HostRuntime) -> Result<(), Fail> {
     let alloc = rt.alloc();
     let cells = stack(alloc, 724)?;
     match tried(alloc, &cells) {
-        Ok(found) => assert_eq!(rt; found.count(), 724 * 723 / 2),
-        Err(_) => return Err(Fail::from("no pairs")),
+        Some(Ok(found)) => assert_eq!(rt; found.count(), 724 * 723 / 2),
+        _ => return Err(Fail::from("no pairs")),
     }
     let cells = stack(alloc, 725)?;
     match tried(alloc, &cells) {
-        Ok(_) => return Err(Fail::from("too many pairs")),
-        Err(no) => assert_eq!(rt;
+        Some(Err(no)) => assert_eq!(rt;
             no,
             No::Refused(Refusal::TooMany {
                 what: What::Pairs,
                 limit: 262144,
             })
         ),
+        _ => return Err(Fail::from("not too many pairs")),
     }
     Ok(())
 }

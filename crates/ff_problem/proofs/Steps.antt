@@ -18,7 +18,7 @@ use Rattle.ff_cells.proofs.Complete.{entries_are}
 use Rattle.ff_pairs.specs.Together.{ArePairsOf}
 use Rattle.ff_pairs.specs.declared.limits.TheConstants.{MOST_PAIRS}
 use Rattle.ff_trans.specs.Triples.{AreTriples}
-use Rattle.ff_listed.specs.declared.limits.TheConstants.{MOST_CONSTRAINTS}
+use Rattle.ff_types.specs.declared.limits.TheConstants.{MOST_CONSTRAINTS}
 use Rattle.ff_problem.specs.Limits.{HasFewCells}
 use Rattle.ff_problem.specs.Layers.{AreFewCells, AreFewPairs, AreLayers}
 

@@ -15,7 +15,7 @@ use Rattle.ff_types.specs.Cases.{key}
 use Rattle.ff_cells.specs.declared.limits.TheConstants.{MOST_CELLS, MOST_ENTRIES}
 use Rattle.ff_cells.specs.SlabCells.{AreOneEach, AreNoCells, entries}
 use Rattle.ff_pairs.specs.declared.limits.TheConstants.{MOST_PAIRS}
-use Rattle.ff_listed.specs.declared.limits.TheConstants.{MOST_CONSTRAINTS}
+use Rattle.ff_types.specs.declared.limits.TheConstants.{MOST_CONSTRAINTS}
 
 -- slab cells and entries within their limits
 pub record HasFewCells (g : Sheet) : Type 0 where

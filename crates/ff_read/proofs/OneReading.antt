@@ -8,7 +8,7 @@ use Rattle.ff_types.specs.declared.patterns.Pattern.{Pattern}
 use Rattle.ff_types.specs.declared.refusals.Key.{Key}
 use Rattle.ff_types.specs.declared.refusals.Key.TheVariants.{Fold, VerticesCoords, EdgesVertices, EdgesAssignment, Pins, Log, Viewers}
 use Rattle.ff_types.specs.declared.refusals.Refusal.{Refusal}
-use Rattle.ff_types.specs.declared.refusals.Refusal.TheVariants.{TooLong, NotJson, BadKey, BadVertex, FarVertex, BadEdge, BadMark, SamePoint, Crossing, Loose, Rim, Pinch, Reflex, Enclosed, Apart, Parity, Inconsistent, Oversized, TooMany, BadScript, NotYet}
+use Rattle.ff_types.specs.declared.refusals.Refusal.TheVariants.{TooLong, NotJson, BadKey, BadVertex, FarVertex, BadEdge, BadMark, SamePoint, Crossing, Loose, Rim, Pinch, Reflex, Enclosed, Apart, Parity, Inconsistent, Oversized, TooMany, BadScript}
 use Rattle.ff_types.specs.declared.refusals.What.TheVariants.{Vertices, Edges}
 use Rattle.ff_types.specs.Patterns.{edge_at}
 use Rattle.ff_read.specs.Spelling.{Keys, IsKeyed, AreSpelled, Spells, object_of, vertices_in, edges_in, marks_in, optional_marks, list_of}
@@ -163,7 +163,6 @@ cases d (Inconsistent v) h = inr h
 cases d (Oversized v) h = inr h
 cases d (TooMany w n) h = inr h
 cases d (BadScript w n) h = inr h
-cases d NotYet h = inr h
 
 one_case : (d : Data) (r s : Refusal) → Cases d r → Cases d s → r ≡ s
 unfolding Cases Items
@@ -222,7 +221,6 @@ of_bytes bytes (Inconsistent v) h = inr h
 of_bytes bytes (Oversized v) h = inr h
 of_bytes bytes (TooMany w n) h = inr h
 of_bytes bytes (BadScript w n) h = inr h
-of_bytes bytes NotYet h = inr h
 
 one_of_bytes : (bytes : List ℕ) (r s : Refusal) → Bytes bytes r → Bytes bytes s → r ≡ s
 unfolding Bytes
@@ -261,7 +259,6 @@ refused_by bytes d e (Inconsistent v) h refused = refused (Inconsistent v) (d, e
 refused_by bytes d e (Oversized v) h refused = refused (Oversized v) (d, e, h)
 refused_by bytes d e (TooMany w n) h refused = refused (TooMany w n) (d, e, h)
 refused_by bytes d e (BadScript w n) h refused = refused (BadScript w n) (d, e, h)
-refused_by bytes d e NotYet h refused = refused NotYet (d, e, h)
 
 bytes_out : (bytes : List ℕ) (o : Option Data) → object_of bytes ≡ o → ((p : Pattern) → IsReadAs bytes p → ⊥) → ((r : Refusal) → RefusesBytes bytes r → ⊥) → ⊥
 bytes_out bytes None e pattern refused = refused NotJson e

@@ -2,7 +2,7 @@
 use Rattle.std.specs.Prelude.{ℕ, List, [], ◌++◌, codes}
 use Rattle.std.specs.Fmt.{decimal}
 use Rattle.ff_types.specs.declared.refusals.Refusal.{Refusal}
-use Rattle.ff_types.specs.declared.refusals.Refusal.TheVariants.{TooLong, NotJson, BadKey, BadVertex, FarVertex, BadEdge, BadMark, SamePoint, Crossing, Loose, Rim, Pinch, Reflex, Enclosed, Apart, Parity, Inconsistent, Oversized, TooMany, BadScript, NotYet}
+use Rattle.ff_types.specs.declared.refusals.Refusal.TheVariants.{TooLong, NotJson, BadKey, BadVertex, FarVertex, BadEdge, BadMark, SamePoint, Crossing, Loose, Rim, Pinch, Reflex, Enclosed, Apart, Parity, Inconsistent, Oversized, TooMany, BadScript}
 use Rattle.ff_types.specs.declared.refusals.Key.{Key}
 use Rattle.ff_types.specs.declared.refusals.Key.TheVariants.{Fold, VerticesCoords, EdgesVertices, EdgesAssignment, Pins, Log, Viewers}
 use Rattle.ff_types.specs.declared.refusals.What.{What}
@@ -52,7 +52,6 @@ refusal_name (Inconsistent v) = codes "17 inconsistent"
 refusal_name (Oversized v) = codes "18 oversized"
 refusal_name (TooMany w n) = codes "19 too many"
 refusal_name (BadScript viewer line) = codes "20 bad script"
-refusal_name NotYet = codes "0 not yet"
 
 abbrev pub spaced : List ℕ → List ℕ
 spaced text = codes " " ++ text
@@ -61,7 +60,6 @@ spaced text = codes " " ++ text
 abbrev pub refusal_place : Refusal → List ℕ
 refusal_place TooLong = []
 refusal_place NotJson = []
-refusal_place NotYet = []
 refusal_place (BadKey key) = spaced (key_name key)
 refusal_place (TooMany w limit) = spaced (what_name w) ++ spaced (decimal limit)
 refusal_place (Crossing e e2) = spaced (decimal e) ++ spaced (decimal e2)

@@ -63,7 +63,6 @@ fn name_of_refusal(refusal: Refusal) -> &'static str
         Refusal::Oversized { .. } => "18 oversized",
         Refusal::TooMany { .. } => "19 too many",
         Refusal::BadScript { .. } => "20 bad script",
-        Refusal::NotYet => "0 not yet",
     }
 }
 
@@ -84,7 +83,7 @@ fn push_place(text: &mut String, refusal: Refusal) -> Result<(), AllocError>
     ensures { OnOk result (string_bytes text.new ≡ string_bytes text.old ++ refusal_place refusal) }
 {
     match refusal {
-        Refusal::TooLong | Refusal::NotJson | Refusal::NotYet => Ok(()),
+        Refusal::TooLong | Refusal::NotJson => Ok(()),
         Refusal::BadKey { key } => write!(text, " {}", name_of_key(key)),
         Refusal::TooMany { what, limit } => write!(text, " {} {limit}", name_of_what(what)),
         Refusal::Crossing { e, e2 } => push_two(text, e, e2),

@@ -35,7 +35,6 @@ fn each_refusal_has_its_line(rt: HostRuntime) -> Result<(), Fail> {
             Refusal::BadScript { viewer: 0, line: 3 },
             "refused 20 bad script 0 3\n",
         ),
-        (Refusal::NotYet, "refused 0 not yet\n"),
     ];
     for (refusal, line) in rows {
         let text = refusal_text(alloc, &refusal)?;

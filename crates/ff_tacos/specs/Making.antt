@@ -19,7 +19,7 @@ use Rattle.ff_types.specs.Faces.{ring_at}
 use Rattle.ff_types.specs.Sheets.{Sheet}
 use Rattle.ff_types.specs.Cites.{is_folded_edge, is_flat_edge, face_or}
 use Rattle.ff_types.specs.Terms.{kind_of, terms_of}
-use Rattle.ff_listed.specs.declared.limits.TheConstants.{MOST_CONSTRAINTS}
+use Rattle.ff_types.specs.declared.limits.TheConstants.{MOST_CONSTRAINTS}
 use Rattle.ff_edges.specs.declared.edge_face.EdgeFace.{EdgeFace}
 use Rattle.ff_edges.specs.declared.edge_pair.EdgePair.{EdgePair}
 use Rattle.ff_edges.specs.Ways.{are_left}

@@ -13,7 +13,7 @@ use Rattle.ff_types.specs.Sheets.{Sheet}
 use Rattle.ff_types.specs.Inside.{Overlap}
 use Rattle.ff_types.specs.Cites.{Holds, Witnessed, HasSmallPlaces}
 use Rattle.ff_types.specs.Cases.{key, IsConstraintOf}
-use Rattle.ff_listed.specs.declared.limits.TheConstants.{MOST_CONSTRAINTS}
+use Rattle.ff_types.specs.declared.limits.TheConstants.{MOST_CONSTRAINTS}
 
 -- every family but transitivity
 abbrev pub is_of_edges : Cite → Bool

@@ -1,7 +1,7 @@
 //! Appending what there is.
 ghost use Rattle.std.specs.Prelude.{◌≡◌, ◌++◌, ◌+◌, ◌≤◌, [], length, OnOk, IfErr, IfOk};
 ghost use Rattle.std.specs.List.{cons_option};
-ghost use Rattle.ff_listed.specs.declared.limits.TheConstants.{MOST_CONSTRAINTS as most_constraints};
+ghost use Rattle.ff_types.specs.declared.limits.TheConstants.{MOST_CONSTRAINTS as most_constraints};
 ghost use Rattle.ff_tacos.specs.Making.{IsOver};
 
 use ff_listed::Listing;

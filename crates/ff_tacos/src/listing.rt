@@ -4,7 +4,7 @@ ghost use Rattle.ff_types.specs.FoldedPatterns.{IsFoldedPattern};
 ghost use Rattle.ff_types.specs.Sheets.{sheet_of};
 ghost use Rattle.ff_edges.specs.SharedSegments.{AreEdgePairs};
 ghost use Rattle.ff_edges.specs.EdgesInside.{AreEdgeFaces};
-ghost use Rattle.ff_listed.specs.declared.limits.TheConstants.{MOST_CONSTRAINTS as most_constraints};
+ghost use Rattle.ff_types.specs.declared.limits.TheConstants.{MOST_CONSTRAINTS as most_constraints};
 ghost use Rattle.ff_tacos.specs.Tacos.{AreNumbered, AddsTacos, AreTooMany};
 ghost use Rattle.ff_tacos.specs.Making.{all_given, IsOver, HavePairEdges, HaveEdges, HaveBoth};
 

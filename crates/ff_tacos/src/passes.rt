@@ -2,7 +2,7 @@
 ghost use Rattle.std.specs.Prelude.{◌≡◌, ◌++◌, ◌+◌, ◌<◌, ◌≤◌, length, OnOk, IfErr};
 ghost use Rattle.ff_types.specs.FoldedPatterns.{IsFoldedPattern};
 ghost use Rattle.ff_types.specs.Sheets.{sheet_of};
-ghost use Rattle.ff_listed.specs.declared.limits.TheConstants.{MOST_CONSTRAINTS as most_constraints};
+ghost use Rattle.ff_types.specs.declared.limits.TheConstants.{MOST_CONSTRAINTS as most_constraints};
 ghost use Rattle.ff_tacos.specs.Making.{given, IsOver, HavePairEdges, HaveEdges, HaveBoth, taco_taco as gives_taco_taco, taco_face as gives_taco_face, taco_edge as gives_taco_edge, flat_face as gives_flat_face, flat_edge as gives_flat_edge};
 
 use crate::append::append;

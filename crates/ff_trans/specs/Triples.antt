@@ -15,7 +15,7 @@ use Rattle.ff_types.specs.Cites.{Holds, Witnessed, HasSmallPlaces}
 use Rattle.ff_types.specs.Cases.{key, IsConstraintOf}
 use Rattle.ff_cells.specs.declared.cell.Cell.{Cell}
 use Rattle.ff_cells.specs.FaceSets.{HaveFaceSets}
-use Rattle.ff_listed.specs.declared.limits.TheConstants.{MOST_CONSTRAINTS}
+use Rattle.ff_types.specs.declared.limits.TheConstants.{MOST_CONSTRAINTS}
 
 -- the cell at the place has all three faces
 pub record HasThree (cells : List Cell) (i f h k : ℕ) : Type 0 where

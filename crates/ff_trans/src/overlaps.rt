@@ -5,7 +5,7 @@ ghost use Rattle.ff_types.specs.declared.limits.TheConstants.{MOST_FACES as most
 ghost use Rattle.ff_types.specs.Pairs.{pair_at};
 ghost use Rattle.ff_cells.specs.FaceSets.{IsFaceList};
 ghost use Rattle.ff_pairs.specs.Together.{ArePairsOf};
-ghost use Rattle.ff_listed.specs.declared.limits.TheConstants.{MOST_CONSTRAINTS as most_constraints};
+ghost use Rattle.ff_types.specs.declared.limits.TheConstants.{MOST_CONSTRAINTS as most_constraints};
 ghost use Rattle.ff_trans.specs.Triples.{AreTriples, AreNoTriples};
 ghost use Rattle.ff_trans.specs.Rows.{IsFirst, IsRow, AreCellsOf, AreIndexed, lists_in, IsListedTo};
 

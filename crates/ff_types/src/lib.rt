@@ -15,7 +15,7 @@ mod tests;
 pub use cases::{Case, case_of};
 pub use cites::{Cite, Listed};
 pub use faces::{EdgeSides, Faces, Folded};
-pub use limits::{MOST_BYTES, MOST_EDGES, MOST_FACES, MOST_VERTICES};
+pub use limits::{MOST_BYTES, MOST_CONSTRAINTS, MOST_EDGES, MOST_FACES, MOST_VERTICES};
 pub use pairs::{Pairs, pairs_of};
 pub use patterns::{EdgeEnds, Mark, Pattern};
 pub use pins::Pin;

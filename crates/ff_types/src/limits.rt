@@ -11,3 +11,6 @@ pub const MOST_EDGES: usize = 8192;
 
 /// The most faces of a crease pattern.
 pub const MOST_FACES: usize = 2048;
+
+/// The most constraints of a case, and so the most pairs of edges, and edges inside faces, that are listed.
+pub const MOST_CONSTRAINTS: usize = 1 << 22;

@@ -73,8 +73,6 @@ pub enum Refusal {
     TooMany { what: What, limit: u64 },
     /// A command isn't of the grammar.
     BadScript { viewer: u32, line: u32 },
-    /// The program doesn't solve this pattern yet.
-    NotYet,
 }
 
 /// Why there is no answer: a refusal, or want of memory.

@@ -1,6 +1,6 @@
 use Rattle.std.proofs.Common.{◌≡◌, ◌≤◌, ◌++◌, length, take}
 use Rattle.ff_types.specs.Sheets.{sheet_of}
-use Rattle.ff_listed.specs.declared.limits.TheConstants.{MOST_CONSTRAINTS}
+use Rattle.ff_types.specs.declared.limits.TheConstants.{MOST_CONSTRAINTS}
 use Rattle.ff_tacos.specs.Making.{given, taco_taco}
 use Rattle.ff_tacos.proofs.passes.append_taco_tacos.Given as goal
 

@@ -1,5 +1,5 @@
 use Rattle.std.proofs.Common.{◌≤◌, length}
-use Rattle.ff_listed.specs.declared.limits.TheConstants.{MOST_CONSTRAINTS}
+use Rattle.ff_types.specs.declared.limits.TheConstants.{MOST_CONSTRAINTS}
 use Rattle.ff_trans.specs.Rows.{IsListedTo}
 use Rattle.ff_trans.proofs.overlaps.append_pairs.Given as goal
 
