@@ -18,6 +18,8 @@ use Rattle.ff_solve.specs.declared.texts.Last.{Last}
 use Rattle.ff_solve.specs.Lines.{last_of, parts_line, last_line, part_at}
 use Rattle.ff_solve.specs.Outcomes.{AreOutcomes}
 use Rattle.ff_solve.specs.Reports.{IsBoardReport}
+use Rattle.ff_solve.specs.Written.{report_text}
+use Rattle.ff_solve.proofs.Pieces.{whole}
 
 pub report_of_board : (faces : Faces) (folded : Folded) (case : Case) (budget : ℕ) (facts : List (Option Fact)) (parts : List Part) (outcomes : List PartOutcome) (last : Last) (text : List ℕ)
     → ClosesTo case.system.vars case.system.constraints case.starts (Board facts)
@@ -39,10 +41,11 @@ report_of_board faces folded case budget facts parts outcomes last text closes a
   is = t ∙ ap (λ n. head faces folded case (Some facts) ++ parts_line n ++ lines_of (part_at (vars_of parts) outcomes) n ++ last_line (last_of outcomes)) (sym (length-map parts (λ (p : Part). p.vars)));
 }
 
-pub text_as : (first other : List ℕ) (parts ps : List Part) (outcomes os : List PartOutcome) (text : List ℕ)
-    → text ≡ first ++ parts_line (length ps) ++ lines_of (part_at (vars_of ps) os) (length ps) ++ last_line (last_of os) → first ≡ other → ps ≡ parts → os ≡ outcomes
-    → text ≡ other ++ parts_line (length parts) ++ lines_of (part_at (vars_of parts) outcomes) (length parts) ++ last_line (last_of outcomes)
-text_as first other parts ps outcomes os text t a b c =
-    t ∙ ap (λ h. h ++ parts_line (length ps) ++ lines_of (part_at (vars_of ps) os) (length ps) ++ last_line (last_of os)) a
-    ∙ ap (λ qs. other ++ parts_line (length qs) ++ lines_of (part_at (vars_of qs) os) (length qs) ++ last_line (last_of os)) b
-    ∙ ap (λ rs. other ++ parts_line (length parts) ++ lines_of (part_at (vars_of parts) rs) (length parts) ++ last_line (last_of rs)) c
+-- the text of its pieces
+pub text_as : (first head other : List ℕ) (parts : List Part) (outcomes : List PartOutcome) (last : Last) (count : List ℕ) → first ≡ head ++ count → head ≡ other
+    → count ≡ parts_line (length parts) → last ≡ last_of outcomes
+    → report_text first parts outcomes last ≡ other ++ parts_line (length parts) ++ lines_of (part_at (vars_of parts) outcomes) (length parts) ++ last_line (last_of outcomes)
+text_as first head other parts outcomes last count joined a b e =
+    whole first parts outcomes last
+    ∙ ap (λ h. h ++ lines_of (part_at (vars_of parts) outcomes) (length parts) ++ last_line last) (joined ∙ ap (λ h. h ++ count) a ∙ ap (λ n. other ++ n) b)
+    ∙ ap (λ l. other ++ parts_line (length parts) ++ lines_of (part_at (vars_of parts) outcomes) (length parts) ++ last_line l) e

@@ -1,5 +1,6 @@
 mod Searching
 mod Lists
+mod Pieces
 mod Boards
 pub mod OneOutcome
 pub mod OneParts

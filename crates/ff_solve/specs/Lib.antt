@@ -1,5 +1,6 @@
 pub mod Lines
 pub mod Outcomes
 pub mod Reports
+pub mod Written
 pub mod Choices
 pub mod Laws

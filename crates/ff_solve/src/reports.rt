@@ -1,76 +1,75 @@
 //! The report of a case.
-ghost use Rattle.std.specs.Prelude.{◌≡◌, ℕ, ◌<◌, ◌≤◌, ◌++◌, ◌^◌, IfOk, OnOk, length, slice_get, slice_index_or, string_bytes, Some};
+ghost use Rattle.std.specs.Prelude.{◌≡◌, suc, ◌<◌, ◌++◌, ◌^◌, IfOk, length};
 ghost use Rattle.ff_propagate.specs.Facts.{value_at};
 ghost use Rattle.ff_propagate.specs.Closing.{ClosesTo};
 ghost use Rattle.ff_propagate.specs.declared.facts.Closed.TheVariants.{Board};
 ghost use Rattle.ff_parts.specs.Lists.{vars_of};
-ghost use Rattle.ff_report.specs.Heads.{FitFolding, lines_of};
-ghost use Rattle.ff_solve.specs.Lines.{clash_report, parts_line, last_line, part_at, last_of};
+ghost use Rattle.ff_report.specs.Heads.{FitFolding};
+ghost use Rattle.ff_solve.specs.Lines.{clash_report, part_at};
 ghost use Rattle.ff_solve.specs.Reports.{IsReport};
+ghost use Rattle.ff_solve.specs.Written.{AreReported, piece_at, report_text};
 
 use crate::outcomes::{ending, outcomes_of};
 use crate::texts::{Last, clash_text, last_text, parts_text};
 use ff_parts::parts;
 use ff_propagate::{Closed, Facts, Part, close};
 use ff_report::{PartOutcome, head_text, part_text};
-use ff_tables::{NoMemory, Text};
+use ff_tables::{Items, NoMemory, Text};
 use ff_types::{Case, Faces, Folded};
 use std::alloc::{AllocError, Global};
 
-/// A report and how it ends.
+/// A report, to be written part by part: the lines before the parts, each part with what its search came to, and how it
+/// ends.
 #[derive(Drop)]
 pub struct Report {
+    pub head: Text,
+    pub parts: Items<Part>,
+    pub outcomes: Items<PartOutcome>,
     pub last: Last,
-    pub text: Text,
+    pub ghost valid: { AreReported parts outcomes }
 }
 
-fn push_part_at(
-    alloc: Global,
-    text: &mut String,
-    parts: &[Part],
-    outcomes: &[PartOutcome],
-    k: usize,
-) -> Result<(), NoMemory>
-    requires part { (k < length parts.now) × (k < length outcomes.now) }
-    requires few { k < 2 ^ 32 }
-    ensures { OnOk result (string_bytes text.new ≡ string_bytes text.old ++ part_at (vars_of parts.now) outcomes.now k) }
-{
-    let part = part_text(alloc, k as u32, &parts[k], &outcomes[k])?;
-    text.push_str(part.as_str())?;
-    Ok(())
-}
-
-fn push_parts(
-    alloc: Global,
-    text: &mut String,
-    parts: &[Part],
-    outcomes: &[PartOutcome],
-) -> Result<(), NoMemory>
-    requires as_many { length outcomes.now ≡ length parts.now }
-    requires few { length parts.now < 2 ^ 32 }
-    ensures { OnOk result (string_bytes text.new ≡ string_bytes text.old ++ lines_of (part_at (vars_of parts.now) outcomes.now) (length parts.now)) }
-{
-    for k in 0..parts.len() {
-        push_part_at(alloc, text, parts, outcomes, k)?;
+impl Report {
+    /// How many pieces the text has.
+    pub fn pieces(&self) -> usize
+        ensures { result ≡ suc (suc (length self.now.parts)) }
+    {
+        self.parts.as_slice().len() + 2
     }
-    Ok(())
+
+    // The lines of a part.
+    fn part(&self, alloc: Global, k: usize) -> Result<Text, NoMemory>
+        requires { k < length self.now.parts }
+        ensures { IfOk result (λ text. text ≡ part_at (vars_of self.now.parts) self.now.outcomes k) }
+    {
+        part_text(
+            alloc,
+            k as u32,
+            &self.parts.as_slice()[k],
+            &self.outcomes.as_slice()[k],
+        )
+    }
+
+    /// A piece of the text.
+    pub fn piece(&self, alloc: Global, n: usize) -> Result<Text, NoMemory>
+        requires { n < suc (suc (length self.now.parts)) }
+        ensures { IfOk result (λ text. text ≡ piece_at self.now.head self.now.parts self.now.outcomes self.now.last n) }
+    {
+        if n == 0 {
+            return self.head.copy(alloc);
+        }
+        if n - 1 == self.parts.as_slice().len() {
+            return last_text(alloc, self.last);
+        }
+        self.part(alloc, n - 1)
+    }
 }
 
-fn text_of_board(
-    alloc: Global,
-    head: &Text,
-    parts: &[Part],
-    outcomes: &[PartOutcome],
-) -> Result<Text, NoMemory>
-    requires as_many { length outcomes.now ≡ length parts.now }
-    requires few { length parts.now < 2 ^ 32 }
-    ensures { IfOk result (λ text. text ≡ head.now ++ parts_line (length parts.now)
-        ++ lines_of (part_at (vars_of parts.now) outcomes.now) (length parts.now) ++ last_line (last_of outcomes.now)) }
+fn joined(alloc: Global, first: &Text, second: &Text) -> Result<Text, NoMemory>
+    ensures { IfOk result (λ text. text ≡ first.now ++ second.now) }
 {
-    let mut text = String::from_str(alloc, head.as_str())?;
-    text.push_str(parts_text(alloc, parts.len() as u32)?.as_str())?;
-    push_parts(alloc, &mut text, parts, outcomes)?;
-    text.push_str(last_text(alloc, ending(outcomes))?.as_str())?;
+    let mut text = String::from_str(alloc, first.as_str())?;
+    text.push_str(second.as_str())?;
     Ok(Text::of(text))
 }
 
@@ -86,15 +85,19 @@ fn report_board(
     requires folding { FitFolding faces.now folded.now }
     requires board { ClosesTo case.now.system.vars case.now.system.constraints case.now.starts (Board facts.now) }
     requires few { length case.now.system.constraints < 2 ^ 32 }
-    ensures { IfOk result (λ r. IsReport faces.now folded.now case.now budget r.last r.text) }
+    ensures { IfOk result (λ r. IsReport faces.now folded.now case.now budget r.last (report_text r.head r.parts r.outcomes r.last)) }
 {
     let _vars = case.system.vars;
     let head = head_text(alloc, faces, folded, case, Some(facts))?;
     let parts = parts(alloc, &case.system, facts)?;
     let outcomes = outcomes_of(alloc, case, facts, parts.as_slice(), budget)?;
+    let count = parts_text(alloc, parts.as_slice().len() as u32)?;
+    let last = ending(outcomes.as_slice());
     Ok(Report {
-        last: ending(outcomes.as_slice()),
-        text: text_of_board(alloc, &head, parts.as_slice(), outcomes.as_slice())?,
+        head: joined(alloc, &head, &count)?,
+        parts,
+        outcomes,
+        last,
     })
 }
 
@@ -106,15 +109,16 @@ fn report_clash(
     case: &Case,
 ) -> Result<Report, NoMemory>
     requires folding { FitFolding faces.now folded.now }
-    ensures { IfOk result (λ r. (r.last ≡ Last.Impossible) × (r.text ≡ clash_report faces.now folded.now case.now)) }
+    ensures { IfOk result (λ r. (r.last ≡ Last.Impossible)
+        × (report_text r.head r.parts r.outcomes r.last ≡ clash_report faces.now folded.now case.now)) }
 {
     let head = head_text(alloc, faces, folded, case, None)?;
-    let mut text = String::from_str(alloc, head.as_str())?;
-    text.push_str(clash_text(alloc)?.as_str())?;
-    text.push_str(last_text(alloc, Last::Impossible)?.as_str())?;
+    let clash = clash_text(alloc)?;
     Ok(Report {
+        head: joined(alloc, &head, &clash)?,
+        parts: Items::of(Vec::new(alloc)),
+        outcomes: Items::of(Vec::new(alloc)),
         last: Last::Impossible,
-        text: Text::of(text),
     })
 }
 
@@ -128,7 +132,7 @@ pub fn report_of(
 ) -> Result<Report, NoMemory>
     requires folding { FitFolding faces.now folded.now }
     requires few { (length case.now.system.constraints < 2 ^ 32) × (length case.now.starts < 2 ^ 32) }
-    ensures { IfOk result (λ r. IsReport faces.now folded.now case.now budget r.last r.text) }
+    ensures { IfOk result (λ r. IsReport faces.now folded.now case.now budget r.last (report_text r.head r.parts r.outcomes r.last)) }
 {
     match close(alloc, &case.system, &case.starts)? {
         Closed::Board(facts) => report_board(alloc, faces, folded, case, &facts, budget),

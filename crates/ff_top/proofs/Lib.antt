@@ -1,4 +1,5 @@
 mod Pieces
+mod Wrote
 mod SamePatterns
 mod Answers
 mod Runs

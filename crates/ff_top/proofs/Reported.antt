@@ -13,6 +13,7 @@ use Rattle.ff_solve.specs.declared.texts.Last.{Last}
 use Rattle.ff_tables.specs.declared.memory.NoMemory.{NoMemory}
 use Rattle.ff_solve.specs.declared.reports.Report.{Report}
 use Rattle.ff_solve.specs.Reports.{IsReport}
+use Rattle.ff_solve.specs.Written.{report_text}
 use Rattle.ff_solve.proofs.Stacked.{choices_are_stackings, clash_has_none}
 use Rattle.ff_propagate.specs.Facts.{value_at}
 use Rattle.ff_parts.specs.Lists.{vars_of}
@@ -35,8 +36,9 @@ solved bytes faces folded case budget l text reads report = record {
 }
 
 pub report_solved : (bytes : List ℕ) (faces : Faces) (folded : Folded) (case : Case) (budget : ℕ) → ReadsProblem bytes faces folded case
-    → (r : Result Report NoMemory) → IfOk r (λ x. IsReport faces folded case budget x.last x.text) → IfOk r (λ x. IsSolved bytes budget x.last x.text)
-report_solved bytes faces folded case budget reads (Ok x) h = solved bytes faces folded case budget x.last x.text reads h
+    → (r : Result Report NoMemory) → IfOk r (λ x. IsReport faces folded case budget x.last (report_text x.head x.parts x.outcomes x.last))
+    → IfOk r (λ x. IsSolved bytes budget x.last (report_text x.head x.parts x.outcomes x.last))
+report_solved bytes faces folded case budget reads (Ok x) h = solved bytes faces folded case budget x.last (report_text x.head x.parts x.outcomes x.last) reads h
 report_solved bytes faces folded case budget reads (Err n) h = tt
 
 -- a point for each corner of each face

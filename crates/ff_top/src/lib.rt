@@ -9,3 +9,4 @@ mod tests;
 pub mod texts;
 pub mod top;
 pub mod transfer;
+mod writing;

@@ -3,15 +3,18 @@ ghost use Rattle.std.specs.Prelude.{◌≡◌, ◌≤◌, IfOk, IfErr, MatchResu
 ghost use Rattle.ff_types.specs.declared.limits.TheConstants.{MOST_BYTES as most_bytes};
 ghost use Rattle.ff_read.specs.Read.{IsReadAs};
 ghost use Rattle.ff_report.specs.Refusals.{refusal_line};
+ghost use Rattle.ff_solve.specs.Written.{report_text};
 ghost use Rattle.ff_top.specs.Solving.{IsReason, ReadsProblem, IsSolved, AnswersSolve, status_of};
+ghost use Rattle.ff_top.specs.Writings.{text_of};
 
 use crate::status::Status;
 use crate::texts::Last;
+use crate::writing::Writing;
 use ff_problem::{Problem, problem_of};
 use ff_read::read_fold;
 use ff_report::refusal_text;
 use ff_solve::{Report, report_of};
-use ff_tables::{NoMemory, Text};
+use ff_tables::NoMemory;
 use ff_types::{No, Pattern, Refusal};
 use std::alloc::Global;
 
@@ -19,15 +22,15 @@ use std::alloc::Global;
 #[derive(Drop)]
 pub(crate) struct Outcome {
     pub(crate) status: Status,
-    pub(crate) text: Text,
+    pub(crate) writing: Writing,
 }
 
 pub(crate) fn refuse(alloc: Global, refusal: Refusal) -> Result<Outcome, NoMemory>
-    ensures { IfOk result (λ o. (o.status ≡ Status.Refused) × (o.text ≡ refusal_line refusal)) }
+    ensures { IfOk result (λ o. (o.status ≡ Status.Refused) × (text_of o.writing ≡ refusal_line refusal)) }
 {
     Ok(Outcome {
         status: Status::Refused,
-        text: refusal_text(alloc, &refusal)?,
+        writing: Writing::Line(refusal_text(alloc, &refusal)?),
     })
 }
 
@@ -82,7 +85,7 @@ fn report_on(
     budget: u64,
 ) -> Result<Report, NoMemory>
     requires { ReadsProblem bytes.now problem.now.faces problem.now.folded problem.now.case }
-    ensures { IfOk result (λ r. IsSolved bytes.now budget r.last r.text) }
+    ensures { IfOk result (λ r. IsSolved bytes.now budget r.last (report_text r.head r.parts r.outcomes r.last)) }
 {
     let _ = bytes;
     report_of(
@@ -97,14 +100,14 @@ fn report_on(
 // The answer to `solve` on these bytes.
 pub(crate) fn solve(alloc: Global, bytes: &[u8], budget: u64) -> Result<Outcome, NoMemory>
     requires { length bytes.now ≤ most_bytes }
-    ensures { IfOk result (λ o. AnswersSolve budget bytes.now o.status o.text) }
+    ensures { IfOk result (λ o. AnswersSolve budget bytes.now o.status (text_of o.writing)) }
 {
     match read_problem(alloc, bytes) {
         Ok(problem) => {
             let report = report_on(alloc, bytes, &problem, budget)?;
             Ok(Outcome {
                 status: status_at(report.last),
-                text: report.text,
+                writing: Writing::Report(report),
             })
         }
         Err(No::Refused(refusal)) => refuse(alloc, refusal),

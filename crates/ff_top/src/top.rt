@@ -4,13 +4,15 @@ ghost use Rattle.std.specs.Prelude.{IfOk, OnOk, IsErrOf};
 ghost use Rattle.ff_outside.specs.Streams.{Rose};
 ghost use Rattle.ff_top.specs.Transfer.{Tells, IsReadOff};
 ghost use Rattle.ff_top.specs.Asking.{AsksSolve};
+ghost use Rattle.ff_top.specs.Writings.{text_of};
 ghost use Rattle.ff_top.specs.Answer.{IsAnswer, IsRun, IsAnswered, IsComplete, OneAnswer, SomeAnswer};
 
 use crate::asking::solve_words;
 use crate::solving::{Outcome, refuse, solve};
 use crate::status::Status;
 use crate::texts::usage_text;
-use crate::transfer::{Input, ReadNo, read_all, write_all};
+use crate::transfer::{Input, ReadNo, read_all};
+use crate::writing::{WriteNo, Writing, write_pieces};
 use ff_outside::{Sink, Source};
 use ff_types::{MOST_BYTES, Refusal};
 use std::alloc::Global;
@@ -18,7 +20,7 @@ use std::alloc::Global;
 // The answer to the words and what the source gives.
 fn prepare<S: Source>(alloc: Global, words: &[String], source: &mut S) -> Result<Outcome, ReadNo>
     ensures answer { IfOk result (λ o. (input : List ℕ) × Tells (S.left source.old) input
-        × IsAnswer (map string_bytes words.now) input o.status o.text) }
+        × IsAnswer (map string_bytes words.now) input o.status (text_of o.writing)) }
     ensures unread { (AsksSolve (map string_bytes words.now) → ⊥) → source.new ≡ source.old }
     ensures read_off { OnOk result (AsksSolve (map string_bytes words.now)
         → IsReadOff MOST_BYTES (S.left source.old) (S.left source.new)) }
@@ -28,7 +30,7 @@ fn prepare<S: Source>(alloc: Global, words: &[String], source: &mut S) -> Result
     let Some(budget) = solve_words(alloc, words)? else {
         return Ok(Outcome {
             status: Status::Usage,
-            text: usage_text(alloc)?,
+            writing: Writing::Line(usage_text(alloc)?),
         });
     };
     match read_all(alloc, source, MOST_BYTES)? {
@@ -41,7 +43,7 @@ fn prepare<S: Source>(alloc: Global, words: &[String], source: &mut S) -> Result
 /// the program's name. It waits for nobody and returns.
 ///
 /// The words are read first, then the source is read to its end or to one byte past the limit, then the text is
-/// written. A fault ends the run, and so does want of memory: what has been read stays read then, and what has been
+/// written, part by part. A fault ends the run, and so does want of memory: what has been read stays read then, and what has been
 /// written stays written.
 pub fn run_alone<S: Source, K: Sink>(
     alloc: Global,
@@ -76,9 +78,10 @@ pub fn run_alone<S: Source, K: Sink>(
         Err(ReadNo::Failed) => return Status::ReadFault,
         Err(ReadNo::NoMemory) => return Status::NoMemory,
     };
-    match write_all(sink, outcome.text.as_str().as_bytes()) {
+    match write_pieces(alloc, sink, &outcome.writing) {
         Ok(()) => outcome.status,
-        Err(_) => Status::WriteFault,
+        Err(WriteNo::Failed) => Status::WriteFault,
+        Err(WriteNo::NoMemory) => Status::NoMemory,
     }
 }
 
