@@ -3,7 +3,7 @@ use Rattle.std.proofs.lemmas.List.{length-map}
 use Rattle.ff_propagate.specs.declared.parts.Part.{Part}
 use Rattle.ff_propagate.specs.Facts.{value_at}
 use Rattle.ff_propagate.specs.Parts.{IsPart}
-use Rattle.ff_solve.specs.Lines.{last_of}
+use Rattle.ff_solve.specs.Lines.{last_of, parts_line}
 use Rattle.ff_solve.specs.Outcomes.{AreOutcomes}
 use Rattle.ff_solve.proofs.Lists.{few_parts}
 use Rattle.ff_solve.proofs.Boards.{report_of_board, text_as}
@@ -14,12 +14,20 @@ outcomes_of-requires-clause-parts c = subst
     (λ ps. (k : ℕ) (part : Part) → slice_get ps k ≡ Some part → IsPart c.args.case.now.system.vars c.args.case.now.system.constraints (value_at c.args.facts.now) part.vars)
     (sym c.as_slice.ensures) c.in_ok-parts.ensures.each
 
-pub text_of_board-requires-clause-few : goal.text_of_board-requires-clause-few
-text_of_board-requires-clause-few c = omega (arith, few_parts _ _ _ _ c.in_ok-parts.ensures.parts, length-map c.in_ok-parts.parts (λ (p : Part). p.vars), ap length c.as_slice-3.ensures)
+pub overflow_cast-as_slice : goal.overflow_cast-as_slice
+overflow_cast-as_slice c = omega (arith, few_parts _ _ _ _ c.in_ok-parts.ensures.parts, length-map c.in_ok-parts.parts (λ (p : Part). p.vars), ap length c.as_slice-2.ensures)
+
+pub invariant_of-result : goal.invariant_of-result
+invariant_of-result c = record {
+  valid = record {
+    as_many = c.in_ok-outcomes.ensures.as_many ∙ ap length c.as_slice.ensures;
+    few = omega (arith, few_parts _ _ _ _ c.in_ok-parts.ensures.parts, length-map c.in_ok-parts.parts (λ (p : Part). p.vars));
+  };
+}
 
 pub returns : goal.returns
 returns c = inr (report_of_board c.args.faces.now c.args.folded.now c.args.case.now c.args.budget c.args.facts.now c.in_ok-parts.parts c.in_ok-outcomes.outcomes _ _
     c.requires.board c.in_ok-parts.ensures.parts c.in_ok-parts.ensures.factors
     (subst (λ ps. AreOutcomes c.args.case.now.system.constraints (value_at c.args.facts.now) c.args.budget ps c.in_ok-outcomes.outcomes) c.as_slice.ensures c.in_ok-outcomes.ensures)
-    (c.ending.ensures ∙ ap last_of c.as_slice-2.ensures)
-    (text_as _ _ _ _ _ _ _ c.in_ok-text_of_board.ensures c.in_ok-head.ensures c.as_slice-3.ensures c.as_slice-4.ensures))
+    (c.ending-last.ensures ∙ ap last_of c.as_slice-3.ensures)
+    (text_as _ _ _ _ _ _ _ c.in_ok-joined.ensures c.in_ok-head.ensures (c.in_ok-count.ensures ∙ ap parts_line (ap length c.as_slice-2.ensures)) (c.ending-last.ensures ∙ ap last_of c.as_slice-3.ensures)))
