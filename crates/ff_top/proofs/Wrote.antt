@@ -1,5 +1,5 @@
 -- Pieces written one after the other.
-use Rattle.std.proofs.Common.{◌≡◌, ◌∙◌, ◌⊎◌, inl, inr, ℕ, zero, suc, ◌+◌, ◌<◌, ◌≤◌, List, [], ◌++◌, length, length-append, take, Option, None, Some, refl, ap, sym, subst, append_assoc, arith}
+use Rattle.std.proofs.Common.{◌≡◌, ◌∙◌, ◌⊎◌, inl, inr, ℕ, zero, suc, ◌+◌, ◌<◌, ◌≤◌, List, [], ◌++◌, length, length-append, take, Option, None, Some, Result, Ok, Err, OnErr, refl, ap, sym, subst, append_assoc, arith}
 use Rattle.std.proofs.lemmas.List.{append-nil, take-append-le}
 use Rattle.std.proofs.Math.Seq.{take-append_seam, take-append-add}
 use Rattle.ff_report.specs.Heads.{lines_of}
@@ -35,3 +35,22 @@ part_so_far before mid after x y z text a (n, less, b) e = (
   omega (arith, less, ap length e, length-append x (y ++ z), length-append y z),
   subst (λ t. Got before t after) (sym (ap (take (length x + n)) e ∙ take-append-add x (y ++ z) n ∙ ap (λ t. x ++ t) (take-append-le n y z (omega (arith, less))))) (got_then before mid after x (take n y) a b),
 )
+
+-- ---- the pieces so far, and all of them
+
+pub on_err : {T E : Type 0} (r : Result T E) (P : Type 0) → P → OnErr r P
+on_err (Ok x) P p = tt
+on_err (Err e) P p = p
+
+pub all_written : (before after : Option (List ℕ)) (line : ℕ → List ℕ) (k n : ℕ) → k ≡ n → Got before (lines_of line k) after → Got before (lines_of line n) after
+all_written before after line k n e got = subst (λ m. Got before (lines_of line m) after) e got
+
+pub so_far : (before after : Option (List ℕ)) (line : ℕ → List ℕ) (k n : ℕ) → k < n → Got before (lines_of line k) after → GotFront before (lines_of line n) after
+so_far before after line k n l got =
+    let s = split line k n l in
+    front_so_far before after (lines_of line k) (line k ++ s.0) (lines_of line n) got s.1
+
+pub part_of_all : (before mid after : Option (List ℕ)) (line : ℕ → List ℕ) (k n : ℕ) → k < n → Got before (lines_of line k) mid → GotPart mid (line k) after → GotPart before (lines_of line n) after
+part_of_all before mid after line k n l got part =
+    let s = split line k n l in
+    part_so_far before mid after (lines_of line k) (line k) s.0 (lines_of line n) got part s.1
