@@ -1,0 +1,4 @@
+pub mod Finite
+pub mod Signs
+pub mod Ranks
+pub mod Cells
