@@ -69,10 +69,14 @@ module _ (vars : ℕ) (cons : List Constraint) (value : ℕ → Option Order) wh
   has_first v k = either_way (Open v) by where
     by : (Open v ⊎ (Open v → ⊥)) → ⊥
     by (inr n) = k (λ o. absurd (n o))
-    by (inl o) = some_least (InClass v) v v (omega arith) (o, ([], refl)) (λ u least. k (λ x. (u, record {
-      undecided = least.is.0;
-      none = λ w l c. least.none w l (c.0, joined v u w least.is.1 c.1);
-    }, turned v u least.is.1)))
+    by (inl o) = some_least (InClass v) v v (omega arith) (o, ([], refl)) (λ u least. k (λ x. (
+      u,
+      record {
+        undecided = least.is.0;
+        none = λ w l c. least.none w l (c.0, joined v u w least.is.1 c.1);
+      },
+      turned v u least.is.1,
+    )))
 
   -- ---- the classes, one for each first
 
@@ -138,7 +142,7 @@ module _ (vars : ℕ) (cons : List Constraint) (value : ℕ → Option Order) wh
       by (suc j, a, e) = absurd ((are_firsts.each k l).none (slice_index part 0)
           (let r = from.rising 0 (suc j) (omega arith) a in omega (arith, r, e)) (from.each 0 (omega (arith, a))))
 
-    pub are_parts : AreParts vars cons value (vars_of parts)
+    are_parts : AreParts vars cons value (vars_of parts)
     are_parts = record {
       each = λ k part e. let c = class_at firsts parts are k part e in is_part k part c.0 c.1;
       all = all;

@@ -62,7 +62,7 @@ module _ (vars : ℕ) (cons : List Constraint) (fit : AreFit vars cons) (gs : Li
     facts : List (Option Fact)
     facts = map fact_of (range_with_len 0 vars)
 
-    pub wide : length facts ≡ vars
+    wide : length facts ≡ vars
     unfolding facts
     wide = length-map (range_with_len 0 vars) fact_of ∙ length-range_with_len 0 vars
 
@@ -97,7 +97,7 @@ module _ (vars : ℕ) (cons : List Constraint) (fit : AreFit vars cons) (gs : Li
     back v s (inl l) q h = ap seen (fact_is v l ∙ ap (fact_by v) q) ∙ has_value v s (all v l) h
     back v s (inr l) q h = absurd (let w = within v s h in omega (arith, w, l))
 
-    pub closure : IsClosure cons (Gives gs) (value_at facts)
+    closure : IsClosure cons (Gives gs) (value_at facts)
     closure v s = (to v s (in_or_out v) refl, back v s (in_or_out v) refl)
 
   pub some_facts : (Clashes cons (Gives gs) → ⊥) → ((facts : List (Option Fact)) → length facts ≡ vars → IsClosure cons (Gives gs) (value_at facts) → ⊥) → ⊥
