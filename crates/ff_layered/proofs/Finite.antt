@@ -1,7 +1,8 @@
 -- Of things of finitely many kinds it can't be that there is no list, in order, with one of each kind that there is.
-use Rattle.std.proofs.Common.{◌≡◌, ◌⊎◌, inl, inr, ℕ, zero, suc, ◌<◌, List, [], ◌∷◌, length, refl, sym, ap, subst, ◌∙◌, arith}
+use Rattle.std.proofs.Common.{◌≡◌, ◌⊎◌, inl, inr, ℕ, zero, suc, ◌<◌, List, [], ◌∷◌, length, slice_get, Some, refl, sym, ap, subst, ◌∙◌, arith}
 use Rattle.std.specs.List.{All, Contains}
 use Rattle.std.proofs.lemmas.List.Elements.{All-nil, All-cons, All-head, All-tail}
+use Rattle.std.proofs.lemmas.Option.{slice_get_within, slice_get-get_or, get_or_from_slice_get}
 use Rattle.ff_types.proofs.Memberships.{no_member, by_member, first_member, later_member}
 
 -- a proposition holds or doesn't, where nothing is to be shown but that something can't be
@@ -181,3 +182,20 @@ module _ {A : Type 0} (Is : A → Type 0) (Before Same : A → A → Type 0) (or
       let t = s.same h.0 h.1 in
       let i = member_of Is xs all h.0 h.1 in
       (t.0, t.1, order.join x h.0 t.0 is i (member_of Is ys s.are t.0 t.1) (alike x h.0 is i (sym h.2)) t.2))))
+
+-- ---- by places
+
+the_same : {A : Type 0} (x y : A) → Some x ≡ Some y → x ≡ y
+the_same x y e = cc
+
+pub is_at : {A : Type 0} (P : A → Type 0) (xs : List A) → All P xs → (n : ℕ) (x : A) → slice_get xs n ≡ Some x → P x
+is_at P xs all n x e = subst P (get_or_from_slice_get xs n x x e) (all n x (slice_get_within xs n x e))
+
+pub in_row_at : {A : Type 0} (R : A → A → Type 0) (xs : List A) → AreInRow R xs → (m n : ℕ) (x y : A) → m < n → slice_get xs m ≡ Some x → slice_get xs n ≡ Some y → R x y
+in_row_at R [] row m n x y l e f = absurd (omega (arith, slice_get_within [] m x e))
+in_row_at R (z ∷ zs) row m zero x y l e f = absurd (omega (arith, l))
+in_row_at R (z ∷ zs) row zero (suc n) x y l e f = is_at (R x) zs (subst (λ w. All (R w) zs) (the_same z x e) row.0) n y f
+in_row_at R (z ∷ zs) row (suc m) (suc n) x y l e f = in_row_at R zs row.1 m n x y (omega (arith, l)) e f
+
+pub place_of_member : {A : Type 0} (xs : List A) (x : A) → Contains xs x → (n : ℕ) × (slice_get xs n ≡ Some x)
+place_of_member xs x (k, l, e) = (k, slice_get-get_or xs k x l ∙ ap Some e)

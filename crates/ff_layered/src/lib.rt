@@ -3,4 +3,4 @@
 
 mod laws;
 
-pub use laws::some_cells;
+pub use laws::{some_cells, some_constraints, some_pairs};
