@@ -1,15 +1,15 @@
 -- What a closure leaves undecided can't fail to have parts.
-use Rattle.std.proofs.Common.{◌≡◌, ◌⊎◌, inl, inr, ℕ, zero, suc, ◌+◌, ◌<◌, ◌≤◌, List, [], ◌∷◌, length, slice_index, slice_get, Option, Some, None, refl, sym, ap, subst, ◌∙◌, arith, Contains}
-use Rattle.std.proofs.lemmas.Option.{slice_get_within, slice_get-get_or}
+use Rattle.std.proofs.Common.{◌≡◌, ◌⊎◌, inl, inr, ℕ, zero, suc, ◌<◌, List, [], ◌∷◌, length, slice_index, slice_get, Option, Some, refl, sym, subst, arith, Contains}
+use Rattle.std.proofs.lemmas.Option.{slice_get_within}
 use Rattle.ff_tables.specs.declared.orders.Order.{Order}
 use Rattle.ff_tables.specs.declared.terms.Constraint.{Constraint}
 use Rattle.ff_propagate.specs.declared.parts.Part.{Part}
 use Rattle.ff_propagate.specs.Parts.{IsUndecided, AreLinked, IsLinkChain, AreConnected, IsPart, AreParts}
 use Rattle.ff_propagate.proofs.Joining.{Stands}
-use Rattle.ff_propagate.proofs.Quiet.{stands_contains, contains_stands}
+use Rattle.ff_propagate.proofs.Quiet.{contains_stands}
 use Rattle.ff_parts.specs.Lists.{vars_of}
 use Rattle.ff_parts.proofs.Reaching.{link_on}
-use Rattle.ff_ends.proofs.Deciding.{either_way, each_below, IsLeast, some_least, AreFrom, some_from}
+use Rattle.ff_ends.proofs.Deciding.{either_way, each_below, some_least, AreFrom, some_from}
 
 module _ (vars : ℕ) (cons : List Constraint) (value : ℕ → Option Order) where
   abbrev Open : ℕ → Type 0

@@ -1,7 +1,6 @@
 -- Of finitely many propositions it can't be that they aren't all decided.
-use Rattle.std.proofs.Common.{◌≡◌, ◌⊎◌, inl, inr, ℕ, zero, suc, ◌+◌, ◌<◌, ◌≤◌, List, [], ◌∷◌, length, slice_index, slice_get, Option, Some, None, refl, sym, ap, subst, ◌∙◌, arith, Contains}
-use Rattle.std.proofs.lemmas.Option.{slice_get_within}
-use Rattle.ff_types.proofs.Memberships.{no_member, first_member, later_member}
+use Rattle.std.proofs.Common.{◌≡◌, ◌⊎◌, inl, inr, ℕ, zero, suc, ◌+◌, ◌<◌, ◌≤◌, List, [], ◌∷◌, length, slice_index, sym, subst, arith, Contains}
+use Rattle.ff_types.proofs.Memberships.{first_member, later_member}
 
 pub either_way : (P : Type 0) → ((P ⊎ (P → ⊥)) → ⊥) → ⊥
 either_way P k = k (inr (λ p. k (inl p)))

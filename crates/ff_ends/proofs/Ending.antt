@@ -1,21 +1,18 @@
 -- Each system with givens comes to a clash, or to a closure with parts and their decision trees.
-use Rattle.std.proofs.Common.{◌≡◌, ℕ, ◌<◌, List, length, map, slice_index, slice_get, Option, Some, refl, sym, ap, subst, ◌∙◌, arith}
-use Rattle.ff_tables.specs.declared.orders.Order.{Order}
+use Rattle.std.proofs.Common.{◌≡◌, ℕ, List, length, Option}
 use Rattle.ff_tables.specs.declared.terms.Constraint.{Constraint}
-use Rattle.ff_tables.specs.declared.systems.System.{System}
 use Rattle.ff_tables.specs.declared.givens.Given.{Given}
 use Rattle.ff_tables.specs.Systems.{AreFit}
 use Rattle.ff_propagate.specs.declared.facts.Fact.{Fact}
 use Rattle.ff_propagate.specs.declared.parts.Part.{Part}
 use Rattle.ff_propagate.specs.Facts.{value_at}
-use Rattle.ff_propagate.specs.Closure.{Clashes, IsClosure, Gives}
+use Rattle.ff_propagate.specs.Closure.{IsClosure, Gives}
 use Rattle.ff_propagate.specs.Parts.{AreParts}
-use Rattle.ff_propagate.specs.Trees.{Tree, IsTree}
 use Rattle.ff_parts.specs.Lists.{vars_of}
 use Rattle.ff_parts.proofs.Factoring.{parts_factor}
 use Rattle.ff_parts.proofs.Classes.{part_at}
 use Rattle.ff_solver.proofs.Existing.{tree_of}
-use Rattle.ff_ends.specs.Ends.{AreOfVariables, HasEnds, EachSystemEnds}
+use Rattle.ff_ends.specs.Ends.{HasEnds, EachSystemEnds}
 use Rattle.ff_ends.proofs.Closures.{some_facts}
 use Rattle.ff_ends.proofs.Classes.{some_parts}
 

@@ -1,6 +1,5 @@
 -- It can't be that no list has one place in each slab cell.
-use Rattle.std.proofs.Common.{◌≡◌, ◌⊎◌, inl, inr, ◌<◌, List, [], ◌∷◌, length, arith, refl, sym, ap, subst}
-use Rattle.std.specs.List.{All, Contains}
+use Rattle.std.proofs.Common.{◌≡◌, ◌⊎◌, inl, inr, List, [], ◌∷◌, length, refl, sym}
 use Rattle.ff_whole.specs.declared.places.Place.{Place}
 use Rattle.ff_types.specs.declared.patterns.Pattern.{Pattern}
 use Rattle.ff_types.specs.declared.faces.Faces.{Faces}
@@ -8,11 +7,11 @@ use Rattle.ff_types.specs.declared.faces.Folded.{Folded}
 use Rattle.ff_types.specs.FoldedPatterns.{IsFoldedPattern}
 use Rattle.ff_types.specs.Sheets.{Sheet, sheet_of}
 use Rattle.ff_cells.specs.declared.bars.Bar.{Bar}
-use Rattle.ff_cells.specs.SlabCells.{IsInCell, IsBefore, AreInOrder, StandInCells, AreOneEach}
+use Rattle.ff_cells.specs.SlabCells.{IsInCell, IsBefore, AreInOrder, AreOneEach}
 use Rattle.ff_cells.proofs.Drawn.{IsDrawn, drawn}
 use Rattle.ff_cells.proofs.BarsThere.{bars_there}
 use Rattle.ff_cells.proofs.OneCount.{AreTogether, clash}
-use Rattle.ff_layered.proofs.Finite.{either_way, AreInRow, IsOrder, in_order}
+use Rattle.ff_layered.proofs.Finite.{AreInRow, IsOrder, in_order}
 use Rattle.ff_layered.proofs.Signs.{sides, are_word, all_lines, not_before}
 use Rattle.ff_layered.proofs.Ranks.{later}
 

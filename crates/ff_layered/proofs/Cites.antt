@@ -1,5 +1,5 @@
 -- It can't be that no list is of all constraints that hold.
-use Rattle.std.proofs.Common.{◌≡◌, ◌⊎◌, inl, inr, ℕ, ◌+◌, ◌<◌, ◌&&◌, Bool, true, List, [], ◌∷◌, length, slice_get, Some, IsTrue, refl, sym, ap, subst, ◌∙◌, arith}
+use Rattle.std.proofs.Common.{◌≡◌, ℕ, ◌+◌, ◌<◌, ◌&&◌, true, List, [], ◌∷◌, length, IsTrue, refl, sym, ◌∙◌, arith}
 use Rattle.std.specs.List.{All, Contains, list_all}
 use Rattle.ff_whole.specs.declared.places.Place.{Place}
 use Rattle.ff_types.specs.declared.patterns.Pattern.{Pattern}
@@ -11,7 +11,7 @@ use Rattle.ff_types.specs.Faces.{ring_at, list_before}
 use Rattle.ff_types.specs.Sheets.{Sheet, sheet_of, is_face}
 use Rattle.ff_types.specs.Inside.{steps}
 use Rattle.ff_types.specs.Witnesses.{witness_edge, witness_face}
-use Rattle.ff_types.specs.Cites.{Holds, Witnessed, is_folded_edge, is_flat_edge}
+use Rattle.ff_types.specs.Cites.{Witnessed, is_folded_edge, is_flat_edge}
 use Rattle.ff_types.specs.Cases.{key}
 use Rattle.ff_types.specs.FoldedPatterns.{IsFoldedPattern}
 use Rattle.ff_borders.proofs.Tests.{both_of, below_from}

@@ -1,5 +1,5 @@
 -- The terms of a constraint that holds are variables of the overlapping pairs.
-use Rattle.std.proofs.Common.{◌≡◌, ℕ, ◌<◌, List, [], ◌∷◌, length, map, nat_lt, slice_get, slice_index_or, Option, Some, None, false, refl, sym, ap, subst, ◌∙◌, arith}
+use Rattle.std.proofs.Common.{◌≡◌, ℕ, ◌<◌, List, length, map, nat_lt, slice_get, slice_index_or, Option, Some, None, false, refl, sym, ap, subst, ◌∙◌, arith}
 use Rattle.std.proofs.lemmas.List.{length-map, get_or-map}
 use Rattle.ff_tables.specs.declared.terms.Term.{Term}
 use Rattle.ff_tables.specs.declared.terms.Constraint.{Constraint}
@@ -10,14 +10,13 @@ use Rattle.ff_types.specs.declared.faces.Folded.{Folded}
 use Rattle.ff_types.specs.declared.cites.Cite.{Cite}
 use Rattle.ff_types.specs.Pairs.{StandsIn, in_order, place_in, number_of, pair_at}
 use Rattle.ff_types.specs.Sheets.{Sheet, sheet_of}
-use Rattle.ff_types.specs.Cites.{Holds}
 use Rattle.ff_types.specs.Terms.{kind_of, terms_of}
-use Rattle.ff_types.specs.Cases.{IsTermOf, IsConstraintOf}
+use Rattle.ff_types.specs.Cases.{IsTermOf}
 use Rattle.ff_types.specs.FoldedPatterns.{IsFoldedPattern}
 use Rattle.ff_types.proofs.SortedPairs.{place_stands}
 use Rattle.ff_borders.specs.Terms.{IsOverlapping}
 use Rattle.ff_borders.proofs.Terms.{terms_overlap}
-use Rattle.ff_layered.specs.Layers.{ArePairsOf, HasConstraints}
+use Rattle.ff_layered.specs.Layers.{HasConstraints}
 
 abbrev or_zero : Option ℕ → ℕ
 or_zero (Some n) = n

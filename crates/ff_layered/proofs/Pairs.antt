@@ -1,9 +1,9 @@
 -- It can't be that no list is of all overlapping pairs.
-use Rattle.std.proofs.Common.{◌≡◌, ◌↔◌, ◌⊎◌, inl, inr, ℕ, ◌<◌, ◌==◌, ◌&&◌, ◌||◌, Bool, true, List, [], ◌∷◌, length, nat_lt, slice_get, Some, IsTrue, refl, sym, ap, subst, ◌∙◌, arith}
+use Rattle.std.proofs.Common.{◌≡◌, ◌⊎◌, inl, inr, ℕ, ◌<◌, ◌==◌, ◌&&◌, true, List, [], ◌∷◌, length, nat_lt, Some, IsTrue, refl, sym, ap, ◌∙◌, arith}
 use Rattle.std.specs.List.{All, Contains, list_all}
 use Rattle.std.proofs.lemmas.Bool.{lt-ltb, eq-eqb}
 use Rattle.ff_whole.specs.declared.places.Place.{Place}
-use Rattle.ff_types.specs.Pairs.{is_before, AreSorted}
+use Rattle.ff_types.specs.Pairs.{is_before}
 use Rattle.ff_types.specs.Sheets.{Sheet, is_face}
 use Rattle.ff_types.specs.Inside.{is_inside, Overlap}
 use Rattle.ff_types.proofs.SortedPairs.{before_is}

@@ -1,7 +1,7 @@
 -- A constraint that holds has places that witness it: a common place, as often as the cite has places.
-use Rattle.std.proofs.Common.{◌≡◌, ℕ, ◌<◌, ◌&&◌, Bool, true, List, [], ◌∷◌, length, IsTrue, refl, pos, ◌<ℤ◌, ◌≤ℤ◌, ℤ, arith}
+use Rattle.std.proofs.Common.{◌≡◌, ℕ, ◌&&◌, Bool, true, List, [], ◌∷◌, IsTrue, refl, pos, ◌<ℤ◌, ◌≤ℤ◌, ℤ, arith}
 use Rattle.std.specs.Prelude.{int_lt, int_le}
-use Rattle.std.specs.List.{All, Contains, list_all, list_any}
+use Rattle.std.specs.List.{All, list_all, list_any}
 use Rattle.std.proofs.lemmas.List.Elements.{All-nil, All-cons}
 use Rattle.ff_whole.proofs.Signs.{linear}
 use Rattle.ff_whole.specs.declared.places.Place.{Place}

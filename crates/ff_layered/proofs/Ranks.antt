@@ -1,12 +1,10 @@
 -- Places in slab cells are in an order: what comes before a place comes before all that follow it.
-use Rattle.std.proofs.Common.{ℕ, ◌≡◌, ◌≢◌, ◌⊎◌, inl, inr, ◌<◌, List, length, arith, refl, sym, subst, ◌∙◌, ℤ, pos, ◌*ℤ◌, ◌+ℤ◌, ◌<ℤ◌, ◌≤ℤ◌, Bool, true, false, IsTrue}
-use lib.IntN.{neg_ℤ}
+use Rattle.std.proofs.Common.{ℕ, ◌≡◌, ◌≢◌, ◌⊎◌, inl, inr, ◌<◌, List, length, arith, refl, sym, subst, ℤ, pos, ◌<ℤ◌, ◌≤ℤ◌, Bool, true, false, IsTrue}
 use Rattle.std.specs.List.{Contains}
 use Rattle.std.proofs.lemmas.Bool.Decides.{Decides-int_eq}
-use Rattle.ff_whole.proofs.Signs.{linear, by_sign, pos-mul, pos-mul_neg, neg-mul_pos}
+use Rattle.ff_whole.proofs.Signs.{linear, by_sign, pos-mul, pos-mul_neg}
 use Rattle.ff_whole.specs.Places.{through, height, slant, IsPlace}
 use Rattle.ff_whole.specs.Convex.{point_at}
-use Rattle.ff_whole.specs.declared.points.Pt.{Pt}
 use Rattle.ff_whole.specs.declared.lines.Line.{Line}
 use Rattle.ff_whole.specs.declared.places.Place.{Place}
 use Rattle.ff_types.specs.Patterns.{edge_at}
@@ -15,11 +13,11 @@ use Rattle.ff_types.specs.Borders.{is_on, are_parallel}
 use Rattle.ff_cells.specs.declared.bars.Bar.{Bar}
 use Rattle.ff_cells.specs.Gap.{run, spot, gap}
 use Rattle.ff_cells.specs.Sheet.{IsOver}
-use Rattle.ff_cells.specs.SlabCells.{IsOnBorder, IsLeftOf, PassesAbove, PassesBelow, IsBelow, IsInCell, IsBefore}
+use Rattle.ff_cells.specs.SlabCells.{IsLeftOf, IsBelow, IsInCell, IsBefore}
 use Rattle.ff_cells.proofs.Cuts.{run-opposite, run-trans_first, run-trans_last}
 use Rattle.ff_cells.proofs.Gaps.{gap-height, gap-opposite, gap-same_x, Crosses, crossing_of, crossed}
 use Rattle.ff_cells.proofs.Slices.{one_place}
-use Rattle.ff_cells.proofs.BarEdges.{Reaches, AreEnds, on_edge, from_below, from_above, passes_below, passes_above, parallel_bars}
+use Rattle.ff_cells.proofs.BarEdges.{Reaches, AreEnds, on_edge, from_below, from_above, passes_below, parallel_bars}
 use Rattle.ff_cells.proofs.FaceLists.{off_edge}
 use Rattle.ff_cells.proofs.Drawn.{IsDrawn}
 use Rattle.ff_layered.proofs.Finite.{either_way}

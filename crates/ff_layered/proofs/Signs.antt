@@ -1,5 +1,5 @@
 -- Places in slab cells on the same sides of finitely many lines are in one slab cell.
-use Rattle.std.proofs.Common.{ℕ, zero, suc, ◌≡◌, ◌≢◌, ◌⊎◌, inl, inr, ◌<◌, List, [], ◌∷◌, length, map, arith, refl, sym, ap, subst, ◌∙◌, ℤ, pos, ◌-ℤ◌, ◌*ℤ◌, ◌+ℤ◌, ◌<ℤ◌, Bool, true, false, IsTrue, true≢false}
+use Rattle.std.proofs.Common.{ℕ, zero, suc, ◌≡◌, ◌⊎◌, inl, inr, ◌<◌, List, [], ◌∷◌, length, map, arith, refl, sym, ap, subst, ◌∙◌, ℤ, pos, ◌-ℤ◌, ◌*ℤ◌, ◌+ℤ◌, ◌<ℤ◌, Bool, true, false, IsTrue, true≢false}
 use Rattle.std.specs.Prelude.{int_lt}
 use lib.IntN.{*ℤ-zero}
 use Rattle.std.specs.List.{Contains}
@@ -16,11 +16,11 @@ use Rattle.ff_whole.specs.declared.lines.Line.{Line}
 use Rattle.ff_whole.specs.declared.places.Place.{Place}
 use Rattle.ff_types.specs.Patterns.{edge_at}
 use Rattle.ff_types.specs.Sheets.{Sheet, tail, line_of}
-use Rattle.ff_types.specs.Borders.{is_on, are_parallel}
+use Rattle.ff_types.specs.Borders.{is_on}
 use Rattle.ff_types.proofs.Memberships.{no_member, by_member, first_member, later_member}
 use Rattle.ff_cells.specs.declared.bars.Bar.{Bar}
 use Rattle.ff_cells.specs.Gap.{run, spot}
-use Rattle.ff_cells.specs.SlabCells.{IsCrossing, IsOnBorder, IsLeftOf, IsBelow, IsInCell, IsBefore}
+use Rattle.ff_cells.specs.SlabCells.{IsOnBorder, IsLeftOf, IsBelow, IsInCell, IsBefore}
 use Rattle.ff_cells.proofs.Cuts.{run-opposite}
 use Rattle.ff_cells.proofs.Slices.{run_same, run_same_back, one_place}
 use Rattle.ff_cells.proofs.BarEdges.{AreEnds, from_on, on_vertical, from_below, from_above}
