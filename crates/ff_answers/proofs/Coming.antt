@@ -20,7 +20,7 @@ use Rattle.ff_cases.proofs.Truth.{cases_are_true}
 use Rattle.ff_cells.specs.declared.limits.TheConstants.{MOST_CELLS, MOST_ENTRIES}
 use Rattle.ff_cells.specs.SlabCells.{AreOneEach, entries}
 use Rattle.ff_pairs.specs.declared.limits.TheConstants.{MOST_PAIRS}
-use Rattle.ff_layered.specs.Layers.{ArePairsOf, AreCitesOf}
+use Rattle.ff_layered.specs.Layers.{AreAllPairs, AreAllCites}
 use Rattle.ff_layered.proofs.Cells.{some_cells}
 use Rattle.ff_layered.proofs.Pairs.{some_pairs}
 use Rattle.ff_layered.proofs.Cites.{some_cites}
@@ -33,18 +33,20 @@ few_or_many : (n most : ℕ) → (n ≤ most) ⊎ (most < n)
 few_or_many n most = grind arith
 
 keys_differ : (p q : List ℕ) → IsTrue (list_before p q) → p ≢ q
-keys_differ p q b e = lists_apart p q b (subst (λ x. IsTrue (list_before q x)) (sym e) (subst (λ x. IsTrue (list_before x q)) e b))
+keys_differ p q b e = lists_apart p q b (subst (λ x. IsTrue (list_before q x)) (sym e)
+    (subst (λ x. IsTrue (list_before x q)) e b))
 
 module _ {pattern : Pattern} {faces : Faces} {folded : Folded} (h : IsFoldedPattern pattern faces folded)
-    (none : (r : Refusal) → RefusesCase (sheet_of pattern faces folded) r → ⊥) (k : (case : Case) → IsProblem pattern faces folded case → ⊥) where
+    (none : (r : Refusal) → RefusesCase (sheet_of pattern faces folded) r → ⊥) (k : (case : Case)
+    → IsProblem pattern faces folded case → ⊥) where
   abbrev g : Sheet
   g = sheet_of pattern faces folded
 
-  module _ (few : HasFewCells g) (pairs : List (ℕ × ℕ)) (are : ArePairsOf g pairs) (short : length pairs ≤ MOST_PAIRS) where
+  module _ (few : HasFewCells g) (pairs : List (ℕ × ℕ)) (are : AreAllPairs g pairs) (short : length pairs ≤ MOST_PAIRS) where
     no_more : HasManyPairs g → ⊥
     no_more = no_more_pairs g pairs are.sorted are.are short
 
-    few_cites : (cites : List Cite) → AreCitesOf g cites → length cites ≤ MOST_CONSTRAINTS → ⊥
+    few_cites : (cites : List Cite) → AreAllCites g cites → length cites ≤ MOST_CONSTRAINTS → ⊥
     few_cites cites all l = by (the_case h pairs are cites all) where
       by : (case : Case) × IsCaseOf g case × (length case.system.constraints ≡ length cites) → ⊥
       by (case, is, e) = k case (record {
@@ -54,7 +56,7 @@ module _ {pattern : Pattern} {faces : Faces} {folded : Folded} (h : IsFoldedPatt
         true_to = cases_are_true h case is;
       })
 
-    many_cites : (cites : List Cite) → AreCitesOf g cites → MOST_CONSTRAINTS < length cites → ⊥
+    many_cites : (cites : List Cite) → AreAllCites g cites → MOST_CONSTRAINTS < length cites → ⊥
     many_cites cites all l = none (TooMany Constraints MOST_CONSTRAINTS) (inr (
       few,
       inr (
@@ -71,11 +73,12 @@ module _ {pattern : Pattern} {faces : Faces} {folded : Folded} (h : IsFoldedPatt
       ),
     ))
 
-    by_cites : (cites : List Cite) → AreCitesOf g cites → ⊥
-    by_cites cites all = elim (few_or_many (length cites) MOST_CONSTRAINTS) [ inl l ↦ few_cites cites all l | inr l ↦ many_cites cites all l ]
+    by_cites : (cites : List Cite) → AreAllCites g cites → ⊥
+    by_cites cites all = elim (few_or_many
+        (length cites) MOST_CONSTRAINTS) [ inl l ↦ few_cites cites all l | inr l ↦ many_cites cites all l ]
 
   module _ (few : HasFewCells g) where
-    many_pairs : (pairs : List (ℕ × ℕ)) → ArePairsOf g pairs → MOST_PAIRS < length pairs → ⊥
+    many_pairs : (pairs : List (ℕ × ℕ)) → AreAllPairs g pairs → MOST_PAIRS < length pairs → ⊥
     many_pairs pairs are l = none (TooMany Pairs MOST_PAIRS) (inr (
       few,
       inl (
@@ -91,7 +94,7 @@ module _ {pattern : Pattern} {faces : Faces} {folded : Folded} (h : IsFoldedPatt
       ),
     ))
 
-    by_pairs : (pairs : List (ℕ × ℕ)) → ArePairsOf g pairs → ⊥
+    by_pairs : (pairs : List (ℕ × ℕ)) → AreAllPairs g pairs → ⊥
     by_pairs pairs are = elim (few_or_many (length pairs) MOST_PAIRS) [
       | inl l ↦ some_cites h (by_cites few pairs are l)
       | inr l ↦ many_pairs pairs are l

@@ -52,19 +52,32 @@ module _ (cons : List Constraint) (value : ℕ → Option Order) (budget : ℕ) 
 
   outcomes_of : (parts : List Part) → ((k : ℕ) (part : Part) → slice_get parts k ≡ Some part → HasTree part)
       → (outcomes : List PartOutcome) × AreOutcomes cons value budget parts outcomes
-  outcomes_of [] trees = ([], record { as_many = refl; each = λ k part o e f. absurd (let l = slice_get_within [] k part e in omega (arith, l)) })
-  outcomes_of (p ∷ parts) trees = more (outcome_of p (trees 0 p refl)) (outcomes_of parts (λ k part e. trees (suc k) part e)) where
-    more : (o : PartOutcome) × IsOutcome cons value budget p.vars o → (outcomes : List PartOutcome) × AreOutcomes cons value budget parts outcomes
-        → (outcomes : List PartOutcome) × AreOutcomes cons value budget (p ∷ parts) outcomes
-    more (o, is) (rest, are) = (o ∷ rest, record { as_many = ap suc are.as_many; each = each }) where
-      each : (k : ℕ) (part : Part) (x : PartOutcome) → slice_get (p ∷ parts) k ≡ Some part → slice_get (o ∷ rest) k ≡ Some x → IsOutcome cons value budget part.vars x
-      each zero part x e f = subst (λ (q : Part). IsOutcome cons value budget q.vars x) (the_same p part e) (subst (IsOutcome cons value budget p.vars) (the_same o x f) is)
-      each (suc k) part x e f = are.each k part x e f
+  outcomes_of [] trees = (
+    [],
+    record {
+      as_many = refl;
+      each = λ k part o e f. absurd
+          (let l = slice_get_within [] k part e in omega (arith, l));
+    },
+  )
+  outcomes_of (p ∷ parts) trees = more (outcome_of p (trees 0 p refl))
+      (outcomes_of parts (λ k part e. trees (suc k) part e)) where
+        more : (o : PartOutcome) × IsOutcome cons value budget p.vars o
+            → (outcomes : List PartOutcome) × AreOutcomes cons value budget parts outcomes
+            → (outcomes : List PartOutcome) × AreOutcomes cons value budget (p ∷ parts) outcomes
+        more (o, is) (rest, are) = (o ∷ rest, record { as_many = ap suc are.as_many; each = each }) where
+          each : (k : ℕ) (part : Part) (x : PartOutcome) → slice_get (p ∷ parts) k ≡ Some part
+              → slice_get (o ∷ rest) k ≡ Some x → IsOutcome cons value budget part.vars x
+          each zero part x e f = subst (λ (q : Part). IsOutcome cons value budget q.vars x) (the_same p part e)
+              (subst (IsOutcome cons value budget p.vars) (the_same o x f) is)
+          each (suc k) part x e f = are.each k part x e f
 
 -- ---- the report
 
-module _ (faces : Faces) (folded : Folded) (case : Case) (budget : ℕ) (k : (l : Last) (text : List ℕ) → IsReport faces folded case budget l text → ⊥) where
-  of_board : (facts : List (Option Fact)) (parts : List Part) → HasEnds case.system.vars case.system.constraints case.starts facts parts → ⊥
+module _ (faces : Faces) (folded : Folded) (case : Case) (budget : ℕ) (k : (l : Last) (text : List ℕ)
+    → IsReport faces folded case budget l text → ⊥) where
+  of_board : (facts : List (Option Fact)) (parts : List Part)
+      → HasEnds case.system.vars case.system.constraints case.starts facts parts → ⊥
   of_board facts parts e =
       let o = outcomes_of case.system.constraints (value_at facts) budget parts e.trees in
       k (last_of o.0) (board_text faces folded case facts (vars_of parts) o.0) (inr (record {

@@ -92,7 +92,8 @@ module _ (vars : ℕ) (cons : List Constraint) (value : ℕ → Option Order) wh
       (λ list of. k (record { vars = list } ∷ parts) (of, are)))
 
   -- the class at a place
-  class_at : (firsts : List ℕ) (parts : List Part) → AreClasses firsts parts → (k : ℕ) (part : List ℕ) → slice_get (vars_of parts) k ≡ Some part
+  class_at : (firsts : List ℕ) (parts : List Part) → AreClasses firsts parts → (k : ℕ) (part : List ℕ)
+      → slice_get (vars_of parts) k ≡ Some part
       → (k < length firsts) × AreFrom (InClass (slice_index firsts k)) 0 vars part
   class_at [] [] are k part e = absurd (omega (arith, slice_get_within [] k part e))
   class_at [] (p ∷ parts) are k part e = absurd are
@@ -118,9 +119,11 @@ module _ (vars : ℕ) (cons : List Constraint) (value : ℕ → Option Order) wh
     self k l = ((are_firsts.each k l).undecided, ([], refl))
 
     first_in : (k : ℕ) (part : List ℕ) → k < length firsts → AreFrom (InClass (first_at k)) 0 vars part → Stands part (first_at k)
-    first_in k part l from = contains_stands part (first_at k) (from.all (first_at k) (self k l) (omega arith) (self k l).0.variable)
+    first_in k part l from = contains_stands part (first_at k)
+        (from.all (first_at k) (self k l) (omega arith) (self k l).0.variable)
 
-    is_part : (k : ℕ) (part : List ℕ) → k < length firsts → AreFrom (InClass (first_at k)) 0 vars part → IsPart vars cons value part
+    is_part : (k : ℕ) (part : List ℕ) → k < length firsts → AreFrom (InClass (first_at k)) 0 vars part
+        → IsPart vars cons value part
     is_part k part l from = record {
       some = (let s = first_in k part l from in omega (arith, s.1));
       undecided = λ i m. (from.each i m).0;
@@ -131,11 +134,13 @@ module _ (vars : ℕ) (cons : List Constraint) (value : ℕ → Option Order) wh
       );
     } where
       there : (i v : ℕ) → i < length part → Stands part v → Connected (slice_index part i) v
-      there i v m (j, b, e) = joined (slice_index part i) (first_at k) v (turned (first_at k) (slice_index part i) (from.each i m).1)
+      there i v m (j, b, e) = joined (slice_index part i) (first_at k) v
+          (turned (first_at k) (slice_index part i) (from.each i m).1)
           (subst (Connected (first_at k)) e (from.each j b).1)
 
     -- a class begins with its first one
-    begins : (k : ℕ) (part : List ℕ) → k < length firsts → AreFrom (InClass (first_at k)) 0 vars part → slice_index part 0 ≡ first_at k
+    begins : (k : ℕ) (part : List ℕ) → k < length firsts → AreFrom (InClass (first_at k)) 0 vars part
+        → slice_index part 0 ≡ first_at k
     begins k part l from = by (first_in k part l from) where
       by : Stands part (first_at k) → slice_index part 0 ≡ first_at k
       by (zero, a, e) = e
@@ -154,7 +159,8 @@ module _ (vars : ℕ) (cons : List Constraint) (value : ℕ → Option Order) wh
     } where
       all : (v : ℕ) → Open v → (k : ℕ) × (part : List ℕ) × (slice_get (vars_of parts) k ≡ Some part) × Contains part v
       all v o = by (lead v o.variable o) where
-        by : (f : ℕ) × IsFirst f × Connected f v → (k : ℕ) × (part : List ℕ) × (slice_get (vars_of parts) k ≡ Some part) × Contains part v
+        by : (f : ℕ) × IsFirst f × Connected f v → (k : ℕ) × (part : List ℕ) × (slice_get (vars_of parts) k ≡ Some part)
+            × Contains part v
         by (f, first, c) = at (contains_stands firsts f (are_firsts.all f first (omega arith) first.undecided.variable)) where
           at : Stands firsts f → (k : ℕ) × (part : List ℕ) × (slice_get (vars_of parts) k ≡ Some part) × Contains part v
           at (k, l, e) =

@@ -100,5 +100,6 @@ module _ (vars : ℕ) (cons : List Constraint) (fit : AreFit vars cons) (gs : Li
     closure : IsClosure cons (Gives gs) (value_at facts)
     closure v s = (to v s (in_or_out v) refl, back v s (in_or_out v) refl)
 
-  pub some_facts : (Clashes cons (Gives gs) → ⊥) → ((facts : List (Option Fact)) → length facts ≡ vars → IsClosure cons (Gives gs) (value_at facts) → ⊥) → ⊥
+  pub some_facts : (Clashes cons (Gives gs) → ⊥) → ((facts : List (Option Fact)) → length facts ≡ vars
+      → IsClosure cons (Gives gs) (value_at facts) → ⊥) → ⊥
   some_facts none k = each_below vars IsSettled (λ v l. settled v) (λ all. k (facts none all) (wide none all) (closure none all))

@@ -11,10 +11,11 @@ below_or_last n i h = grind (arith, h)
 -- what can't fail to be for each number can't fail to be for all
 pub each_below : (n : ℕ) (P : ℕ → Type 0) → ((i : ℕ) → i < n → (P i → ⊥) → ⊥) → (((i : ℕ) → i < n → P i) → ⊥) → ⊥
 each_below zero P h k = k (λ i l. absurd (omega (arith, l)))
-each_below (suc n) P h k = each_below n P (λ i l. h i (omega (arith, l))) (λ f. h n (omega arith) (λ p. k (λ i l. elim (below_or_last n i l) [
-  | inl b ↦ f i b
-  | inr e ↦ subst P (sym e) p
-])))
+each_below (suc n) P h k = each_below n P (λ i l. h i (omega (arith, l)))
+    (λ f. h n (omega arith) (λ p. k (λ i l. elim (below_or_last n i l) [
+      | inl b ↦ f i b
+      | inr e ↦ subst P (sym e) p
+    ])))
 
 -- the least number of some kind
 pub record IsLeast (P : ℕ → Type 0) (u : ℕ) : Type 0 where
@@ -24,7 +25,8 @@ pub record IsLeast (P : ℕ → Type 0) (u : ℕ) : Type 0 where
 pub some_least : (P : ℕ → Type 0) (fuel n : ℕ) → n ≤ fuel → P n → ((u : ℕ) → IsLeast P u → ⊥) → ⊥
 some_least P zero n l p k = k n (record { is = p; none = λ w m q. omega (arith, l, m) })
 some_least P (suc fuel) n l p k = either_way ((w : ℕ) × (w < n) × P w) (by (some_least P fuel)) where
-  by : ((n : ℕ) → n ≤ fuel → P n → ((u : ℕ) → IsLeast P u → ⊥) → ⊥) → ((w : ℕ) × (w < n) × P w) ⊎ (((w : ℕ) × (w < n) × P w) → ⊥) → ⊥
+  by : ((n : ℕ) → n ≤ fuel → P n → ((u : ℕ) → IsLeast P u → ⊥) → ⊥)
+      → ((w : ℕ) × (w < n) × P w) ⊎ (((w : ℕ) × (w < n) × P w) → ⊥) → ⊥
   by again (inl (w, m, q)) = again w (omega (arith, l, m)) q k
   by again (inr none) = k n (record { is = p; none = λ w m q. none (w, m, q) })
 

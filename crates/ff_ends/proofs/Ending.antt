@@ -16,8 +16,10 @@ use Rattle.ff_ends.specs.Ends.{HasEnds, EachSystemEnds}
 use Rattle.ff_ends.proofs.Closures.{some_facts}
 use Rattle.ff_ends.proofs.Classes.{some_parts}
 
-ends : (vars : ℕ) (cons : List Constraint) → AreFit vars cons → (gs : List Given) (facts : List (Option Fact)) (parts : List Part) → length facts ≡ vars
-    → IsClosure cons (Gives gs) (value_at facts) → AreParts vars cons (value_at facts) (vars_of parts) → HasEnds vars cons gs facts parts
+ends : (vars : ℕ) (cons : List Constraint) → AreFit vars cons
+    → (gs : List Given) (facts : List (Option Fact)) (parts : List Part) → length facts ≡ vars
+    → IsClosure cons (Gives gs) (value_at facts) → AreParts vars cons (value_at facts) (vars_of parts)
+    → HasEnds vars cons gs facts parts
 ends vars cons fit gs facts parts wide closure are = record {
   wide = wide;
   closure = closure;

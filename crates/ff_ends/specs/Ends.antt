@@ -17,7 +17,8 @@ abbrev pub AreOfVariables : ℕ → List Given → Type 0
 AreOfVariables vars gs = (i : ℕ) (g : Given) → slice_get gs i ≡ Some g → g.var < vars
 
 -- The facts are the closure, with its parts, and each part has its decision tree.
-pub record HasEnds (vars : ℕ) (cons : List Constraint) (gs : List Given) (facts : List (Option Fact)) (parts : List Part) : Type 0 where
+pub record HasEnds (vars : ℕ) (cons : List Constraint) (gs : List Given) (facts : List (Option Fact))
+    (parts : List Part) : Type 0 where
   pub wide : length facts ≡ vars
   pub closure : IsClosure cons (Gives gs) (value_at facts)
   pub parts_are : AreParts vars cons (value_at facts) (vars_of parts)

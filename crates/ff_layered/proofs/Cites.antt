@@ -16,7 +16,7 @@ use Rattle.ff_types.specs.Cases.{key}
 use Rattle.ff_types.specs.FoldedPatterns.{IsFoldedPattern}
 use Rattle.ff_borders.proofs.Tests.{both_of, below_from}
 use Rattle.ff_borders.proofs.TwoSides.{folded_edge, flat_edge}
-use Rattle.ff_layered.specs.Layers.{AreCitesOf, HasCites}
+use Rattle.ff_layered.specs.Layers.{AreAllCites, HasCites}
 use Rattle.ff_layered.proofs.Finite.{IsWord, IsOrder, in_order, AreInRow, is_at, in_row_at, place_of_member}
 use Rattle.ff_layered.proofs.Keys.{keys_compare, keys_later}
 use Rattle.ff_layered.proofs.Places.{some_witness}
@@ -50,9 +50,11 @@ module _ (g : Sheet) where
   family n l = omega (arith, l)
 
   face_of : (f : ℕ) (at : List Place) → IsTrue (witness_face g at f) → f < length g.rings
-  face_of f at t = below_from f (length g.rings) (both_of (is_face g f) (list_all (witness_edge g f at) (steps (ring_at g.rings f))) t).0
+  face_of f at t = below_from f (length g.rings) (both_of (is_face g f)
+      (list_all (witness_edge g f at) (steps (ring_at g.rings f))) t).0
 
-  faces_of_three : (f h k : ℕ) (at : List Place) → IsTrue (list_all (witness_face g at) (f ∷ h ∷ k ∷ [])) → (f < most) × (h < most) × (k < most)
+  faces_of_three : (f h k : ℕ) (at : List Place) → IsTrue (list_all (witness_face g at) (f ∷ h ∷ k ∷ []))
+      → (f < most) × (h < most) × (k < most)
   faces_of_three f h k at t =
       let w = witness_face g at in
       let a = both_of (w f) (w h && (w k && true)) t in
@@ -70,7 +72,8 @@ module _ (g : Sheet) where
   of_flat e t = as_edge e (flat_edge g e t).0
 
   word : (c : Cite) → Witnessed g c → IsWord most 4 (key c)
-  word (Transitivity f h k at) w = let t = faces_of_three f h k at w.2.witness in (family 0 (omega arith), (t.0, (t.1, (t.2, tt))))
+  word (Transitivity f h k at) w = let t = faces_of_three f h k at w.2.witness in
+      (family 0 (omega arith), (t.0, (t.1, (t.2, tt))))
   word (TacoTaco e k) w =
       let b = both_of (is_folded_edge g e) (is_folded_edge g k) w.1 in
       (family 1 (omega arith), (of_folded e b.0, (of_folded k b.1, tt)))
@@ -85,8 +88,9 @@ module _ {pattern : Pattern} {faces : Faces} {folded : Folded} (h : IsFoldedPatt
   abbrev sheet : Sheet
   sheet = sheet_of pattern faces folded
 
-  are_cites : (cites : List Cite) → All (Witnessed sheet) cites → AreInRow Before cites → ((c : Cite) → Witnessed sheet c → (d : Cite) × Contains cites d × Same c d)
-      → AreCitesOf sheet cites
+  are_cites : (cites : List Cite) → All (Witnessed sheet) cites → AreInRow Before cites
+      → ((c : Cite) → Witnessed sheet c → (d : Cite) × Contains cites d × Same c d)
+      → AreAllCites sheet cites
   are_cites cites all row has = record {
     witnessed = λ n c e. is_at (Witnessed sheet) cites all n c e;
     complete = λ c holds.

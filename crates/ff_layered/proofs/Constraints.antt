@@ -25,9 +25,11 @@ or_zero None = 0
 abbrev term_of : List (ℕ × ℕ) → ℕ × ℕ → Term
 term_of pairs p = record { var = or_zero (number_of pairs p.0 p.1); flipped = nat_lt p.1 p.0 }
 
-has_number : (pairs : List (ℕ × ℕ)) (p : ℕ × ℕ) (n : ℕ) → slice_get pairs n ≡ Some (in_order p.0 p.1) → number_of pairs p.0 p.1 ≡ Some (or_zero (number_of pairs p.0 p.1))
+has_number : (pairs : List (ℕ × ℕ)) (p : ℕ × ℕ) (n : ℕ) → slice_get pairs n ≡ Some (in_order p.0 p.1)
+    → number_of pairs p.0 p.1 ≡ Some (or_zero (number_of pairs p.0 p.1))
 has_number pairs p n there = by (place_in pairs (in_order p.0 p.1)) refl (place_stands pairs (in_order p.0 p.1)) where
-  by : (r : Option ℕ) → place_in pairs (in_order p.0 p.1) ≡ r → StandsIn pairs (in_order p.0 p.1) r → place_in pairs (in_order p.0 p.1) ≡ Some (or_zero (place_in pairs (in_order p.0 p.1)))
+  by : (r : Option ℕ) → place_in pairs (in_order p.0 p.1) ≡ r → StandsIn pairs (in_order p.0 p.1) r
+      → place_in pairs (in_order p.0 p.1) ≡ Some (or_zero (place_in pairs (in_order p.0 p.1)))
   by (Some m) q s = q ∙ ap (λ o. Some (or_zero o)) (sym q)
   by None q s = absurd (s n there)
 
@@ -52,6 +54,8 @@ module _ {pattern : Pattern} {faces : Faces} {folded : Folded} (h : IsFoldedPatt
         let t = (are.are (in_order p.0 p.1).0 (in_order p.0 p.1).1 o.rises).0 o.ordered in
         record { variable = has_number pairs p t.0 t.1; turned = refl }
 
-    each : (j : ℕ) → j < length (terms_of g c) → IsTermOf pairs (slice_index_or (terms_of g c) j (0, 0)) (term_at (constraint_for pairs c).terms j)
-    each j l = subst (IsTermOf pairs (pair_at (terms_of g c) j)) (sym (get_or-map (term_of pairs) (terms_of g c) j (0, 0) (record { var = 0; flipped = false }) l))
+    each : (j : ℕ) → j < length (terms_of g c) → IsTermOf pairs (slice_index_or (terms_of g c) j (0, 0))
+        (term_at (constraint_for pairs c).terms j)
+    each j l = subst (IsTermOf pairs (pair_at (terms_of g c) j))
+        (sym (get_or-map (term_of pairs) (terms_of g c) j (0, 0) (record { var = 0; flipped = false }) l))
         (of_pair (pair_at (terms_of g c) j) (terms_overlap h c holds j l))

@@ -42,15 +42,18 @@ abbrev words_of : ℕ → ℕ → List (List ℕ)
 words_of m zero = [] ∷ []
 words_of m (suc n) = [] ∷ spread m (words_of m n)
 
-in_prefixed : (x : ℕ) (words rest : List (List ℕ)) (word : List ℕ) → Contains words word → Contains (prefixed x words rest) (x ∷ word)
+in_prefixed : (x : ℕ) (words rest : List (List ℕ)) (word : List ℕ) → Contains words word
+    → Contains (prefixed x words rest) (x ∷ word)
 in_prefixed x [] rest word m = absurd (no_member word m)
 in_prefixed x (w ∷ words) rest word m = by_member w words word
     (λ e. first_member (x ∷ w) (prefixed x words rest) (x ∷ word) (ap (λ z. x ∷ z) e))
     (λ c. later_member (x ∷ w) (prefixed x words rest) (x ∷ word) (in_prefixed x words rest word c)) m
 
-behind_prefixed : (x : ℕ) (words rest : List (List ℕ)) (word : List ℕ) → Contains rest word → Contains (prefixed x words rest) word
+behind_prefixed : (x : ℕ) (words rest : List (List ℕ)) (word : List ℕ) → Contains rest word
+    → Contains (prefixed x words rest) word
 behind_prefixed x [] rest word m = m
-behind_prefixed x (w ∷ words) rest word m = later_member (x ∷ w) (prefixed x words rest) word (behind_prefixed x words rest word m)
+behind_prefixed x (w ∷ words) rest word m = later_member (x ∷ w) (prefixed x words rest) word
+    (behind_prefixed x words rest word m)
 
 below_or_last : (n i : ℕ) → i < suc n → (i < n) ⊎ (i ≡ n)
 below_or_last n i h = grind (arith, h)
@@ -59,7 +62,8 @@ in_spread : (m x : ℕ) (words : List (List ℕ)) (word : List ℕ) → x < m �
 in_spread zero x words word l c = absurd (omega (arith, l))
 in_spread (suc m) x words word l c = elim (below_or_last m x l) [
   | inl b ↦ behind_prefixed m words (spread m words) (x ∷ word) (in_spread m x words word b c)
-  | inr e ↦ subst (λ y. Contains (prefixed m words (spread m words)) (y ∷ word)) (sym e) (in_prefixed m words (spread m words) word c)
+  | inr e ↦ subst (λ y. Contains (prefixed m words (spread m words)) (y ∷ word)) (sym e)
+      (in_prefixed m words (spread m words) word c)
 ]
 
 in_words : (m n : ℕ) (word : List ℕ) → IsWord m n word → Contains (words_of m n) word
@@ -75,7 +79,8 @@ module _ {A : Type 0} (Is : A → Type 0) (code : A → List ℕ) where
   abbrev HasKind : List A → A → Type 0
   HasKind xs x = (y : A) × Contains xs y × (code y ≡ code x)
 
-  of_words : (words : List (List ℕ)) → ((xs : List A) → All Is xs → ((x : A) → Is x → Contains words (code x) → HasKind xs x) → ⊥) → ⊥
+  of_words : (words : List (List ℕ)) → ((xs : List A) → All Is xs
+      → ((x : A) → Is x → Contains words (code x) → HasKind xs x) → ⊥) → ⊥
   of_words [] k = k [] (All-nil Is) (λ x is c. absurd (no_member (code x) c))
   of_words (word ∷ words) k = of_words words (λ xs all has. either_way ((x : A) × Is x × (code x ≡ word)) (more xs all has)) where
     more : (xs : List A) → All Is xs → ((x : A) → Is x → Contains words (code x) → HasKind xs x)
@@ -121,42 +126,44 @@ module _ {A : Type 0} (Is : A → Type 0) (Before Same : A → A → Type 0) (or
     keeps = λ y m. absurd (no_member y m);
     only = λ y m. by_member x [] y (λ e. inl e) (λ c. inr c) m;
   })
-  put_in x is (z ∷ zs) all row k = order.compare x z is (All-head Is z zs all) (at (put_in x is zs (All-tail Is z zs all) row.1)) where
-    rest : All Is zs
-    rest = All-tail Is z zs all
+  put_in x is (z ∷ zs) all row k = order.compare x z is (All-head Is z zs all)
+      (at (put_in x is zs (All-tail Is z zs all) row.1)) where
+        rest : All Is zs
+        rest = All-tail Is z zs all
 
-    at : (((ys : List A) → IsIn x zs ys → ⊥) → ⊥) → (Before x z ⊎ (Before z x ⊎ Same x z)) → ⊥
-    at again (inl before) = of_all (Before x) (z ∷ zs) each (λ first. k (x ∷ z ∷ zs) (record {
-      are = All-cons Is x (z ∷ zs) is all;
-      in_row = (first, row);
-      same = (x, first_member x (z ∷ zs) x refl, order.self x is);
-      keeps = λ y m. later_member x (z ∷ zs) y m;
-      only = λ y m. by_member x (z ∷ zs) y (λ e. inl e) (λ c. inr c) m;
-    })) where
-      each : (y : A) → Contains (z ∷ zs) y → (Before x y → ⊥) → ⊥
-      each y m n = by_member z zs y (λ e. n (subst (Before x) e before))
-          (λ c. order.later x z y is (All-head Is z zs all) (member_of Is zs rest y c) before (member_of (Before z) zs row.0 y c) n) m
-    at again (inr (inr same)) = k (z ∷ zs) (record {
-      are = all;
-      in_row = row;
-      same = (z, first_member z zs z refl, same);
-      keeps = λ y m. m;
-      only = λ y m. inr m;
-    })
-    at again (inr (inl before)) = again (λ ys i. k (z ∷ ys) (record {
-      are = All-cons Is z ys (All-head Is z zs all) i.are;
-      in_row = (
-        all_from (Before z) ys (λ y m. elim (i.only y m) [
-          | inl e ↦ subst (Before z) e before
-          | inr c ↦ member_of (Before z) zs row.0 y c
-        ]),
-        i.in_row,
-      );
-      same = (i.same.0, later_member z ys i.same.0 i.same.1, i.same.2);
-      keeps = λ y m. by_member z zs y (λ e. first_member z ys y e) (λ c. later_member z ys y (i.keeps y c)) m;
-      only = λ y m. by_member z ys y (λ e. inr (first_member z zs y e))
-          (λ c. elim (i.only y c) [ inl e ↦ inl e | inr d ↦ inr (later_member z zs y d) ]) m;
-    }))
+        at : (((ys : List A) → IsIn x zs ys → ⊥) → ⊥) → (Before x z ⊎ (Before z x ⊎ Same x z)) → ⊥
+        at again (inl before) = of_all (Before x) (z ∷ zs) each (λ first. k (x ∷ z ∷ zs) (record {
+          are = All-cons Is x (z ∷ zs) is all;
+          in_row = (first, row);
+          same = (x, first_member x (z ∷ zs) x refl, order.self x is);
+          keeps = λ y m. later_member x (z ∷ zs) y m;
+          only = λ y m. by_member x (z ∷ zs) y (λ e. inl e) (λ c. inr c) m;
+        })) where
+          each : (y : A) → Contains (z ∷ zs) y → (Before x y → ⊥) → ⊥
+          each y m n = by_member z zs y (λ e. n (subst (Before x) e before))
+              (λ c. order.later x z y is (All-head Is z zs all) (member_of Is zs rest y c) before
+              (member_of (Before z) zs row.0 y c) n) m
+        at again (inr (inr same)) = k (z ∷ zs) (record {
+          are = all;
+          in_row = row;
+          same = (z, first_member z zs z refl, same);
+          keeps = λ y m. m;
+          only = λ y m. inr m;
+        })
+        at again (inr (inl before)) = again (λ ys i. k (z ∷ ys) (record {
+          are = All-cons Is z ys (All-head Is z zs all) i.are;
+          in_row = (
+            all_from (Before z) ys (λ y m. elim (i.only y m) [
+              | inl e ↦ subst (Before z) e before
+              | inr c ↦ member_of (Before z) zs row.0 y c
+            ]),
+            i.in_row,
+          );
+          same = (i.same.0, later_member z ys i.same.0 i.same.1, i.same.2);
+          keeps = λ y m. by_member z zs y (λ e. first_member z ys y e) (λ c. later_member z ys y (i.keeps y c)) m;
+          only = λ y m. by_member z ys y (λ e. inr (first_member z zs y e))
+              (λ c. elim (i.only y c) [ inl e ↦ inl e | inr d ↦ inr (later_member z zs y d) ]) m;
+        }))
 
   -- all of the list, in order
   record IsSorted (xs ys : List A) : Type 0 where
@@ -166,18 +173,20 @@ module _ {A : Type 0} (Is : A → Type 0) (Before Same : A → A → Type 0) (or
 
   sorted : (xs : List A) → All Is xs → ((ys : List A) → IsSorted xs ys → ⊥) → ⊥
   sorted [] all k = k [] (record { are = All-nil Is; in_row = tt; same = λ x m. absurd (no_member x m) })
-  sorted (x ∷ xs) all k = sorted xs (All-tail Is x xs all) (λ ys s. put_in x (All-head Is x xs all) ys s.are s.in_row (λ zs i. k zs (record {
-    are = i.are;
-    in_row = i.in_row;
-    same = λ y m. by_member x xs y (λ e. subst (HasSame zs) e i.same)
-        (λ c. let h = s.same y c in (h.0, i.keeps h.0 h.1, h.2)) m;
-  })))
+  sorted (x ∷ xs) all k = sorted xs (All-tail Is x xs all)
+      (λ ys s. put_in x (All-head Is x xs all) ys s.are s.in_row (λ zs i. k zs (record {
+        are = i.are;
+        in_row = i.in_row;
+        same = λ y m. by_member x xs y (λ e. subst (HasSame zs) e i.same)
+            (λ c. let h = s.same y c in (h.0, i.keeps h.0 h.1, h.2)) m;
+      })))
 
   -- there can't fail to be a list in order with one of each kind
   pub in_order : (m n : ℕ) (code : A → List ℕ) → ((x : A) → Is x → IsWord m n (code x))
       → ((x y : A) → Is x → Is y → code x ≡ code y → Same x y)
       → ((ys : List A) → All Is ys → AreInRow Before ys → ((x : A) → Is x → (y : A) × Contains ys y × Same x y) → ⊥) → ⊥
-  in_order m n code word alike k = of_words Is code (words_of m n) (λ xs all has. sorted xs all (λ ys s. k ys s.are s.in_row (λ x is.
+  in_order m n code word alike k = of_words Is code (words_of m n)
+      (λ xs all has. sorted xs all (λ ys s. k ys s.are s.in_row (λ x is.
       let h = has x is (in_words m n (code x) (word x is)) in
       let t = s.same h.0 h.1 in
       let i = member_of Is xs all h.0 h.1 in
@@ -191,7 +200,8 @@ the_same x y e = cc
 pub is_at : {A : Type 0} (P : A → Type 0) (xs : List A) → All P xs → (n : ℕ) (x : A) → slice_get xs n ≡ Some x → P x
 is_at P xs all n x e = subst P (get_or_from_slice_get xs n x x e) (all n x (slice_get_within xs n x e))
 
-pub in_row_at : {A : Type 0} (R : A → A → Type 0) (xs : List A) → AreInRow R xs → (m n : ℕ) (x y : A) → m < n → slice_get xs m ≡ Some x → slice_get xs n ≡ Some y → R x y
+pub in_row_at : {A : Type 0} (R : A → A → Type 0) (xs : List A) → AreInRow R xs → (m n : ℕ) (x y : A) → m < n
+    → slice_get xs m ≡ Some x → slice_get xs n ≡ Some y → R x y
 in_row_at R [] row m n x y l e f = absurd (omega (arith, slice_get_within [] m x e))
 in_row_at R (z ∷ zs) row m zero x y l e f = absurd (omega (arith, l))
 in_row_at R (z ∷ zs) row zero (suc n) x y l e f = is_at (R x) zs (subst (λ w. All (R w) zs) (the_same z x e) row.0) n y f

@@ -14,7 +14,8 @@ first_before : (x y : ℕ) (p q : List ℕ) → x < y → Before (x ∷ p) (y �
 first_before x y p q l = of_first (nat_lt x y) ((x == y) && list_before p q) (lt-ltb x y l)
 
 then_before : (x y : ℕ) (p q : List ℕ) → x ≡ y → Before p q → Before (x ∷ p) (y ∷ q)
-then_before x y p q e b = of_second (nat_lt x y) ((x == y) && list_before p q) (of_both (x == y) (list_before p q) (eq-eqb x y e) b)
+then_before x y p q e b = of_second (nat_lt x y) ((x == y) && list_before p q)
+    (of_both (x == y) (list_before p q) (eq-eqb x y e) b)
 
 before_is : (x y : ℕ) (p q : List ℕ) → Before (x ∷ p) (y ∷ q) → (x < y) ⊎ ((x ≡ y) × Before p q)
 before_is x y p q b = elim (either_of (nat_lt x y) ((x == y) && list_before p q) b) [

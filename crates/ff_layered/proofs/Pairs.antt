@@ -8,7 +8,7 @@ use Rattle.ff_types.specs.Sheets.{Sheet, is_face}
 use Rattle.ff_types.specs.Inside.{is_inside, Overlap}
 use Rattle.ff_types.proofs.SortedPairs.{before_is}
 use Rattle.ff_borders.proofs.Tests.{both_of, of_first, of_second, of_both, below_from}
-use Rattle.ff_layered.specs.Layers.{ArePairsOf, HasPairs}
+use Rattle.ff_layered.specs.Layers.{AreAllPairs, HasPairs}
 use Rattle.ff_layered.proofs.Finite.{IsWord, IsOrder, in_order, AreInRow, is_at, in_row_at, place_of_member}
 
 abbrev Before : ℕ × ℕ → ℕ × ℕ → Type 0
@@ -18,7 +18,8 @@ first_before : (p q : ℕ × ℕ) → p.0 < q.0 → Before p q
 first_before p q l = of_first (nat_lt p.0 q.0) ((p.0 == q.0) && nat_lt p.1 q.1) (lt-ltb p.0 q.0 l)
 
 then_before : (p q : ℕ × ℕ) → p.0 ≡ q.0 → p.1 < q.1 → Before p q
-then_before p q e l = of_second (nat_lt p.0 q.0) ((p.0 == q.0) && nat_lt p.1 q.1) (of_both (p.0 == q.0) (nat_lt p.1 q.1) (eq-eqb p.0 q.0 e) (lt-ltb p.1 q.1 l))
+then_before p q e l = of_second (nat_lt p.0 q.0) ((p.0 == q.0) && nat_lt p.1 q.1)
+    (of_both (p.0 == q.0) (nat_lt p.1 q.1) (eq-eqb p.0 q.0 e) (lt-ltb p.1 q.1 l))
 
 number_order : (m n : ℕ) → (m < n) ⊎ ((n < m) ⊎ (m ≡ n))
 number_order m n = grind arith
@@ -82,7 +83,8 @@ module _ (g : Sheet) where
       let b = both_of (is_inside g p.1 s) true a.1 in
       (face_of p.0 s a.0, (face_of p.1 s b.0, tt))
 
-  are_pairs : (pairs : List (ℕ × ℕ)) → All Is pairs → AreInRow Before pairs → ((p : ℕ × ℕ) → Is p → (q : ℕ × ℕ) × Contains pairs q × (p ≡ q)) → ArePairsOf g pairs
+  are_pairs : (pairs : List (ℕ × ℕ)) → All Is pairs → AreInRow Before pairs
+      → ((p : ℕ × ℕ) → Is p → (q : ℕ × ℕ) × Contains pairs q × (p ≡ q)) → AreAllPairs g pairs
   are_pairs pairs all row has = record {
     sorted = record {
       rising = λ n p e. (is_at Is pairs all n p e).0;

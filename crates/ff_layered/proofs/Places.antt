@@ -45,7 +45,8 @@ module _ (g : Sheet) (f : ℕ) (s : Place) where
     weak : (z : ℤ) → pos 0 <ℤ z → pos 0 ≤ℤ z
     weak z h = omega (arith, linear)
 
-  by_steps : (places : List Place) → ((step : ℕ × ℕ) → IsTrue (int_lt (pos 0) (depth g f s step)) → IsTrue (witness_edge g f places step))
+  by_steps : (places : List Place) → ((step : ℕ × ℕ) → IsTrue (int_lt (pos 0) (depth g f s step))
+      → IsTrue (witness_edge g f places step))
       → IsTrue (is_inside g f s) → IsTrue (witness_face g places f)
   by_steps places each t =
       let b = both_of (is_face g f) (list_all (λ step. int_lt (pos 0) (depth g f s step)) (steps (ring_at g.rings f))) t in
@@ -54,12 +55,17 @@ module _ (g : Sheet) (f : ℕ) (s : Place) where
       (λ step m. each step (all_at (λ step. int_lt (pos 0) (depth g f s step)) (steps (ring_at g.rings f)) b.1 step m)))
 
   of_two : IsTrue (is_inside g f s) → IsTrue (witness_face g (twice s) f)
-  of_two t = by_steps (twice s) (λ step u. of_both (list_all (λ p. int_le (pos 0) (depth g f p step)) (twice s)) (list_any (λ p. int_lt (pos 0) (depth g f p step)) (twice s))
-      (two_tests (int_le (pos 0) (depth g f s step)) (not_outside step u)) (of_first (int_lt (pos 0) (depth g f s step)) (list_any (λ p. int_lt (pos 0) (depth g f p step)) (s ∷ [])) u)) t
+  of_two t = by_steps (twice s) (λ step u. of_both (list_all (λ p. int_le (pos 0) (depth g f p step)) (twice s))
+      (list_any (λ p. int_lt (pos 0) (depth g f p step)) (twice s))
+      (two_tests (int_le (pos 0) (depth g f s step)) (not_outside step u))
+      (of_first (int_lt (pos 0) (depth g f s step)) (list_any (λ p. int_lt (pos 0) (depth g f p step)) (s ∷ [])) u)) t
 
   of_three : IsTrue (is_inside g f s) → IsTrue (witness_face g (thrice s) f)
-  of_three t = by_steps (thrice s) (λ step u. of_both (list_all (λ p. int_le (pos 0) (depth g f p step)) (thrice s)) (list_any (λ p. int_lt (pos 0) (depth g f p step)) (thrice s))
-      (three_tests (int_le (pos 0) (depth g f s step)) (not_outside step u)) (of_first (int_lt (pos 0) (depth g f s step)) (list_any (λ p. int_lt (pos 0) (depth g f p step)) (twice s)) u)) t
+  of_three t = by_steps (thrice s) (λ step u. of_both (list_all (λ p. int_le (pos 0) (depth g f p step)) (thrice s))
+      (list_any (λ p. int_lt (pos 0) (depth g f p step)) (thrice s))
+      (three_tests (int_le (pos 0) (depth g f s step)) (not_outside step u))
+      (of_first (int_lt (pos 0) (depth g f s step))
+      (list_any (λ p. int_lt (pos 0) (depth g f p step)) (twice s)) u)) t
 
 common_witness : (g : Sheet) (f h k : ℕ) (c : HaveCommon g (f ∷ h ∷ k ∷ [])) → IsWitness g (f ∷ h ∷ k ∷ []) (thrice c.at)
 common_witness g f h k c =
@@ -70,14 +76,16 @@ common_witness g f h k c =
     let w = witness_face g (thrice s) in
     record {
       are_places = All-cons IsPlace s (twice s) c.place (are_two s c.place);
-      witness = of_both (w f) (w h && (w k && true)) (of_three g f s a.0) (of_both (w h) (w k && true) (of_three g h s b.0) (of_both (w k) true (of_three g k s d.0) refl));
+      witness = of_both (w f) (w h && (w k && true)) (of_three g f s a.0)
+          (of_both (w h) (w k && true) (of_three g h s b.0) (of_both (w k) true (of_three g k s d.0) refl));
     }
 
 module _ {pattern : Pattern} {faces : Faces} {folded : Folded} (h : IsFoldedPattern pattern faces folded) where
   abbrev g : Sheet
   g = sheet_of pattern faces folded
 
-  inner_witness : (f e : ℕ) (s : Place) → IsOnInside g f e s → IsTrue (list_all (is_on g e) (twice s)) × IsWitness g (f ∷ []) (twice s)
+  inner_witness : (f e : ℕ) (s : Place) → IsOnInside g f e s
+      → IsTrue (list_all (is_on g e) (twice s)) × IsWitness g (f ∷ []) (twice s)
   inner_witness f e s i = (
     two_tests (is_on g e s) i.on,
     record {

@@ -57,7 +57,8 @@ module _ {g : Sheet} {bars : List Bar} (d : IsDrawn g bars) where
     pub not_right : IsLeftOf g r s → ⊥
 
   -- a vertex left of the one is left of the other
-  vertex_left : (s r : Place) → IsBeside s r → (u : ℕ) → u < length g.images → pos 0 <ℤ run (spot (point_at g.images u)) s → pos 0 <ℤ run (spot (point_at g.images u)) r
+  vertex_left : (s r : Place) → IsBeside s r → (u : ℕ) → u < length g.images → pos 0 <ℤ run (spot (point_at g.images u)) s
+      → pos 0 <ℤ run (spot (point_at g.images u)) r
   vertex_left s r b u l h =
       let p = spot (point_at g.images u) in
       by_sign (run p r)
@@ -65,7 +66,8 @@ module _ {g : Sheet} {bars : List Bar} (d : IsDrawn g bars) where
       (λ z. absurd (b.second.between p one_place (inl (u, l, refl)) z))
       (λ k. k)
 
-  vertex_right : (s r : Place) → IsBeside s r → (u : ℕ) → u < length g.images → pos 0 <ℤ run s (spot (point_at g.images u)) → pos 0 <ℤ run r (spot (point_at g.images u))
+  vertex_right : (s r : Place) → IsBeside s r → (u : ℕ) → u < length g.images
+      → pos 0 <ℤ run s (spot (point_at g.images u)) → pos 0 <ℤ run r (spot (point_at g.images u))
   vertex_right s r b u l h =
       let p = spot (point_at g.images u) in
       let o = run-opposite p r in
@@ -95,7 +97,8 @@ module _ {g : Sheet} {bars : List Bar} (d : IsDrawn g bars) where
       let o = run-opposite (spot b.hi) s in
       record {
         after = by_sign (run (spot b.lo) s) (λ n. (let a = r.after in absurd (omega (arith, linear))))
-            (λ z. absurd (i.between (spot (point_at g.images lo.0)) one_place (inl (lo.0, lo.1, refl)) (subst (λ p. run (spot p) s ≡ pos 0) lo.2 z))) (λ k. k);
+            (λ z. absurd (i.between (spot (point_at g.images lo.0)) one_place (inl (lo.0, lo.1, refl))
+            (subst (λ p. run (spot p) s ≡ pos 0) lo.2 z))) (λ k. k);
         before = by_sign (run s (spot b.hi)) (λ n. (let a = r.before in absurd (omega (arith, linear))))
             (λ z. absurd (i.between (spot (point_at g.images hi.0)) one_place (inl (hi.0, hi.1, refl))
             (subst (λ p. run (spot p) s ≡ pos 0) hi.2 (omega (arith, linear))))) (λ k. k);
@@ -107,8 +110,10 @@ module _ {g : Sheet} {bars : List Bar} (d : IsDrawn g bars) where
       let lo = bar_lo b has in
       let hi = bar_hi b has in
       record {
-        after = subst (λ p. pos 0 <ℤ run (spot p) r) (sym lo.2) (vertex_left s r q lo.0 lo.1 (subst (λ p. pos 0 <ℤ run (spot p) s) lo.2 o.after));
-        before = subst (λ p. pos 0 <ℤ run r (spot p)) (sym hi.2) (vertex_right s r q hi.0 hi.1 (subst (λ p. pos 0 <ℤ run s (spot p)) hi.2 o.before));
+        after = subst (λ p. pos 0 <ℤ run (spot p) r) (sym lo.2)
+            (vertex_left s r q lo.0 lo.1 (subst (λ p. pos 0 <ℤ run (spot p) s) lo.2 o.after));
+        before = subst (λ p. pos 0 <ℤ run r (spot p)) (sym hi.2)
+            (vertex_right s r q hi.0 hi.1 (subst (λ p. pos 0 <ℤ run s (spot p)) hi.2 o.before));
       }
 
   reach : (b : Bar) (s : Place) → IsOver b s → Reaches b s
@@ -133,7 +138,8 @@ module _ {g : Sheet} {bars : List Bar} (d : IsDrawn g bars) where
     pub c_ends : AreEnds g k c
 
   -- bars that go over two places and cross between have a border there
-  border_there : (e k : ℕ) (b c : Bar) → AreTwo e k b c → (s t : Place) → IsPlace s → IsPlace t → IsOver b s → IsOver b t → IsOver c s → IsOver c t
+  border_there : (e k : ℕ) (b c : Bar) → AreTwo e k b c → (s t : Place) → IsPlace s → IsPlace t → IsOver b s → IsOver b t
+      → IsOver c s → IsOver c t
       → (m : Place) → Crosses b.line c.line s t m → IsLeftOf g s t
   border_there e k b c two s t hs ht bs bt cs ct m x = (
     m,
@@ -154,13 +160,17 @@ module _ {g : Sheet} {bars : List Bar} (d : IsDrawn g bars) where
   ) where
     across : (p : Bool) → are_parallel g e k ≡ p → are_parallel g e k ≡ false
     across false q = q
-    across true q = absurd (x.apart (parallel_bars g e k b c two.b_ends two.c_ends ((Decides-int_eq (slant (line_of g e) (line_of g k)) (pos 0)).0 q)))
+    across true q = absurd (x.apart (parallel_bars g e k b c two.b_ends two.c_ends
+        ((Decides-int_eq (slant (line_of g e) (line_of g k)) (pos 0)).0 q)))
 
-    holds : (n : ℕ) (a : Bar) → AreEnds g n a → IsOver a s → IsOver a t → height (through a.lo a.hi) m ≡ pos 0 → IsTrue (is_on g n m)
+    holds : (n : ℕ) (a : Bar) → AreEnds g n a → IsOver a s → IsOver a t → height (through a.lo a.hi) m ≡ pos 0
+        → IsTrue (is_on g n m)
     holds n a ends os ot on = on_edge g n a ends m (record {
       on = on;
-      after = weak (run (spot a.lo) m) (run-trans_last (spot a.lo) s m one_place hs x.positive (weak (run (spot a.lo) s) os.after) x.after);
-      before = weak (run m (spot a.hi)) (run-trans_first m t (spot a.hi) x.positive ht one_place x.before (weak (run t (spot a.hi)) ot.before));
+      after = weak (run (spot a.lo) m) (run-trans_last (spot a.lo) s m one_place hs x.positive
+          (weak (run (spot a.lo) s) os.after) x.after);
+      before = weak (run m (spot a.hi)) (run-trans_first m t (spot a.hi) x.positive ht one_place x.before
+          (weak (run t (spot a.hi)) ot.before));
     }) where
       weak : (z : ℤ) → pos 0 <ℤ z → pos 0 ≤ℤ z
       weak z h = omega (arith, linear)
@@ -179,10 +189,12 @@ module _ {g : Sheet} {bars : List Bar} (d : IsDrawn g bars) where
   swapped : (e k : ℕ) (b c : Bar) → AreTwo e k b c → (t u : Place) → IsBeside t u → AreSwapped b c t u → ⊥
   swapped e k b c two t u q w =
       by_sign (run t u)
-      (λ n. q.not_right (border_there k e c b turned u t q.second.place q.first.place w.cu w.ct w.bu w.bt (crossing_of c.line b.line u t)
+      (λ n. q.not_right (border_there k e c b turned u t q.second.place q.first.place w.cu w.ct w.bu w.bt
+      (crossing_of c.line b.line u t)
       (crossed c.line b.line u t c.ok.rising.rises q.second.place q.first.place (back n) above_turned below_turned)))
       (λ z. level z)
-      (λ p. q.not_left (border_there e k b c two t u q.first.place q.second.place w.bt w.bu w.ct w.cu (crossing_of b.line c.line t u)
+      (λ p. q.not_left (border_there e k b c two t u q.first.place q.second.place w.bt w.bu w.ct w.cu
+      (crossing_of b.line c.line t u)
       (crossed b.line c.line t u b.ok.rising.rises q.first.place q.second.place p above below)))
     where
       turned : AreTwo k e c b
@@ -264,7 +276,8 @@ module _ {g : Sheet} {bars : List Bar} (d : IsDrawn g bars) where
 
       second : (IsLeftOf g s t → ⊥) → (IsLeftOf g t u) ⊎ (IsLeftOf g t u → ⊥) → ⊥
       second st (inl a) = none (inl (left_of s t u i n a))
-      second st (inr tu) = none (risen s t u (record { first = i; second = j; not_left = st; not_right = n }) (record { first = j; second = k; not_left = tu; not_right = m }) never x y)
+      second st (inr tu) = none (risen s t u (record { first = i; second = j; not_left = st; not_right = n })
+          (record { first = j; second = k; not_left = tu; not_right = m }) never x y)
 
       first : (IsLeftOf g s t) ⊎ (IsLeftOf g s t → ⊥) → ⊥
       first (inl a) = none (inl (right_of s t u k a m))

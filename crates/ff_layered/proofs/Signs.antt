@@ -64,10 +64,13 @@ heads_same x y xs ys e = cc
 tails_same : (x y : ℕ) (xs ys : List ℕ) → x ∷ xs ≡ y ∷ ys → xs ≡ ys
 tails_same x y xs ys e = cc
 
-pub same_side : (lines : List Line) (s t : Place) → sides lines s ≡ sides lines t → (l : Line) → Contains lines l → pos 0 <ℤ height l s → pos 0 <ℤ height l t
+pub same_side : (lines : List Line) (s t : Place) → sides lines s ≡ sides lines t → (l : Line) → Contains lines l
+    → pos 0 <ℤ height l s → pos 0 <ℤ height l t
 same_side [] s t e l m h = absurd (no_member l m)
 same_side (k ∷ lines) s t e l m h = by_member k lines l
-    (λ d. subst (λ z. pos 0 <ℤ height z t) d (same_bit (height k s) (height k t) (heads_same (side s k) (side t k) (sides lines s) (sides lines t) e) (subst (λ z. pos 0 <ℤ height z s) (sym d) h)))
+    (λ d. subst (λ z. pos 0 <ℤ height z t) d (same_bit (height k s) (height k t)
+    (heads_same (side s k) (side t k) (sides lines s) (sides lines t) e)
+    (subst (λ z. pos 0 <ℤ height z s) (sym d) h)))
     (λ c. same_side lines s t (tails_same (side s k) (side t k) (sides lines s) (sides lines t) e) l c h) m
 
 -- ---- lists of lines
@@ -121,21 +124,24 @@ abbrev upright : Pt → Line
 upright p = record { a = pos 1; b = pos 0; c = p.x }
 
 height-upright : (p : Pt) (s : Place) → height (upright p) s ≡ run (spot p) s
-height-upright p s = solve (p.x ∷ s.x ∷ s.y ∷ s.w ∷ []) ((num (pos 1) ⊗ var 1 ⊕ num (pos 0) ⊗ var 2) ⊖ var 0 ⊗ var 3) (var 1 ⊗ num (pos 1) ⊖ var 0 ⊗ var 3) refl
+height-upright p s = solve (p.x ∷ s.x ∷ s.y ∷ s.w ∷ []) ((num (pos 1) ⊗ var 1 ⊕ num (pos 0) ⊗ var 2) ⊖ var 0 ⊗ var 3)
+    (var 1 ⊗ num (pos 1) ⊖ var 0 ⊗ var 3) refl
 
 -- the vertical line through the place where two lines meet
 abbrev crossing : Line → Line → Line
 crossing k l = record { a = slant k l; b = pos 0; c = k.c *ℤ l.b -ℤ l.c *ℤ k.b }
 
 -- a place on both has the x of that line
-height-crossing : (k l : Line) (b s : Place) → height k b ≡ pos 0 → height l b ≡ pos 0 → b.w *ℤ height (crossing k l) s ≡ slant k l *ℤ run b s
+height-crossing : (k l : Line) (b s : Place) → height k b ≡ pos 0 → height l b ≡ pos 0
+    → b.w *ℤ height (crossing k l) s ≡ slant k l *ℤ run b s
 height-crossing k l b s hk hl =
     let e = both k l b s in
     let x : (l.b *ℤ s.w) *ℤ height k b ≡ pos 0 = ap (λ z. (l.b *ℤ s.w) *ℤ z) hk ∙ *ℤ-zero (l.b *ℤ s.w) in
     let y : (k.b *ℤ s.w) *ℤ height l b ≡ pos 0 = ap (λ z. (k.b *ℤ s.w) *ℤ z) hl ∙ *ℤ-zero (k.b *ℤ s.w) in
     omega (arith, linear)
   where
-    both : (k l : Line) (b s : Place) → b.w *ℤ height (crossing k l) s ≡ slant k l *ℤ run b s +ℤ ((l.b *ℤ s.w) *ℤ height k b -ℤ (k.b *ℤ s.w) *ℤ height l b)
+    both : (k l : Line) (b s : Place) → b.w *ℤ height (crossing k l) s ≡ slant k l *ℤ run b s +ℤ
+        ((l.b *ℤ s.w) *ℤ height k b -ℤ (k.b *ℤ s.w) *ℤ height l b)
     both k l b s =
         let k' = line_e 0 in let l' = line_e 3 in let b' = place_e 6 in let s' = place_e 9 in
         solve (line_env k (line_env l (place_env b (place_env s []))))
@@ -160,17 +166,20 @@ module _ {g : Sheet} {bars : List Bar} (d : IsDrawn g bars) where
   vertical_there v l = in_row (length g.images) vertical meetings v l
 
   meeting_there : (e k : ℕ) → e < length g.edges → k < length g.edges → Contains all_lines (meeting e k)
-  meeting_there e k l m = behind_row (length g.images) vertical meetings (meeting e k) (in_grid (length g.edges) (length g.edges) meeting (bar_lines bars) e k l m)
+  meeting_there e k l m = behind_row (length g.images) vertical meetings (meeting e k)
+      (in_grid (length g.edges) (length g.edges) meeting (bar_lines bars) e k l m)
 
   bar_there : (b : Bar) → Contains bars b → Contains all_lines b.line
-  bar_there b m = behind_row (length g.images) vertical meetings b.line (behind_grid (length g.edges) (length g.edges) meeting (bar_lines bars) b.line (in_bars bars b m))
+  bar_there b m = behind_row (length g.images) vertical meetings b.line
+      (behind_grid (length g.edges) (length g.edges) meeting (bar_lines bars) b.line (in_bars bars b m))
 
   -- an edge over or under a place in a slab cell has a bar
   pub bar_past : (e : ℕ) → e < length g.edges → (s t : Place) → IsInCell g s → IsPlace t → run s t ≡ pos 0
       → IsTrue (is_on g e t) → (b : Bar) × Contains bars b × AreEnds g e b
   bar_past e l s t i place level on = elim (d.edge_bar e l) [
     | inl same ↦ (let p = spot (tail g e) in let z = on_vertical g e t (d.apart e l) same on in
-        absurd (i.between p one_place (inl ((edge_at g.edges e).a, d.tails e l, refl)) (same_x p s t one_place i.place place z level)))
+        absurd (i.between p one_place (inl ((edge_at g.edges e).a, d.tails e l, refl))
+        (same_x p s t one_place i.place place z level)))
     | inr b ↦ b
   ]
     where
@@ -196,7 +205,8 @@ module _ {g : Sheet} {bars : List Bar} (d : IsDrawn g bars) where
         let p = spot (point_at g.images v) in
         let y' = subst (λ (q : Place). pos 0 <ℤ run q t) e y in
         let x' = subst (λ (q : Place). pos 0 <ℤ run s q) e x in
-        let k = back (vertical v) (vertical_there v l) (subst (λ z. pos 0 <ℤ z) (sym (height-upright (point_at g.images v) t)) y') in
+        let k = back (vertical v) (vertical_there v l)
+        (subst (λ z. pos 0 <ℤ z) (sym (height-upright (point_at g.images v) t)) y') in
         let h = height-upright (point_at g.images v) s in
         let o = run-opposite p s in
         omega (arith, linear)
