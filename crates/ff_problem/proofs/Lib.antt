@@ -1,7 +1,7 @@
 pub mod Counts
 pub mod OneProblem
-mod Assembly
+pub mod Assembly
 mod Refusing
 mod Steps
-mod CreaseStarts
+pub mod CreaseStarts
 mod Making

@@ -1,4 +1,4 @@
--- Words and an input without an answer would be of a pattern that folds.
+-- No words and no input are without an answer.
 use Rattle.std.proofs.Common.{◌<◌, ◌≤◌, ◌⊎◌, inl, inr, ℕ, List, length, Option, Some, None, refl, arith}
 use Rattle.ff_types.specs.declared.limits.TheConstants.{MOST_BYTES}
 use Rattle.ff_types.specs.declared.patterns.Pattern.{Pattern}
@@ -16,10 +16,15 @@ use Rattle.ff_read.proofs.OneReading.{reading_is_one}
 use Rattle.ff_report.specs.Refusals.{refusal_line}
 use Rattle.ff_top.specs.Texts.{usage_line}
 use Rattle.ff_top.specs.Asking.{budget_in}
-use Rattle.ff_top.specs.Solving.{IsRefused}
+use Rattle.ff_solve.specs.declared.texts.Last.{Last}
+use Rattle.ff_solve.specs.declared.texts.Last.TheVariants as last
+use Rattle.ff_answers.proofs.Coming.{folded_patterns_come}
+use Rattle.ff_answers.proofs.Reports.{cases_have_reports}
+use Rattle.ff_top.specs.Solving.{IsRefused, IsSolved}
 use Rattle.ff_top.specs.Answer.{AnswersTo, SomeAnswer}
 use Rattle.ff_top.specs.declared.status.Status.{Status}
-use Rattle.ff_top.specs.declared.status.Status.TheVariants.{Refused, Usage}
+use Rattle.ff_top.specs.declared.status.Status.TheVariants.{Done, Impossible, Unfinished, Refused, Usage}
+use Rattle.ff_top.proofs.Reported.{solved}
 
 longer_or : (m n : ℕ) → (m < n) ⊎ (n ≤ m)
 longer_or m n = grind arith
@@ -39,15 +44,29 @@ module _ (input : List ℕ) (within : length input ≤ MOST_BYTES) (refused : (r
   pub of_bytes : ⊥
   of_bytes = reading_is_one.some input pattern (λ r h. refused r (inr (within, inl h)))
 
-of_length : (input : List ℕ) → (MOST_BYTES < length input) ⊎ (length input ≤ MOST_BYTES) → ((r : Refusal) → IsRefused input r → ⊥)
-    → ((p : Pattern) (faces : Faces) (folded : Folded) → IsReadAs input p → IsFoldedPattern p faces folded → ⊥) → ⊥
-of_length input (inl l) refused folds = refused TooLong (inl (l, refl))
-of_length input (inr l) refused folds = of_bytes input l refused folds
+-- a pattern that folds is refused, or its report solves the input
+module _ (input : List ℕ) (budget : ℕ) (none : (s : Status) (text : List ℕ) → AnswersTo (Some budget) input s text → ⊥) where
+  refused : (r : Refusal) → IsRefused input r → ⊥
+  refused r h = none Refused (refusal_line r) (r, h, refl)
 
-by_budget : (o : Option ℕ) (input : List ℕ) → ((s : Status) (text : List ℕ) → AnswersTo o input s text → ⊥)
-    → ((p : Pattern) (faces : Faces) (folded : Folded) → IsReadAs input p → IsFoldedPattern p faces folded → ⊥) → ⊥
-by_budget None input none folds = none Usage usage_line refl
-by_budget (Some budget) input none folds = of_length input (longer_or MOST_BYTES (length input)) (λ r h. none Refused (refusal_line r) (r, h, refl)) folds
+  by_last : (l : Last) (text : List ℕ) → IsSolved input budget l text → ⊥
+  by_last last.Done text s = none Done text s
+  by_last last.Impossible text s = none Impossible text s
+  by_last last.Unfinished text s = none Unfinished text s
+
+  folds : length input ≤ MOST_BYTES → (p : Pattern) (faces : Faces) (folded : Folded) → IsReadAs input p → IsFoldedPattern p faces folded → ⊥
+  folds within p faces folded read h = folded_patterns_come h
+      (λ r x. refused r (inr (within, inr (record { pattern = p; read = read; refused = inr (inr (faces, folded, h, x)) }))))
+      (λ case problem. cases_have_reports faces folded case budget (λ l text report. by_last l text
+      (solved input faces folded case budget l text (record { within = within; pattern = p; read = read; problem = problem }) report)))
+
+  of_length : (MOST_BYTES < length input) ⊎ (length input ≤ MOST_BYTES) → ⊥
+  of_length (inl l) = refused TooLong (inl (l, refl))
+  of_length (inr l) = of_bytes input l refused (folds l)
+
+by_budget : (o : Option ℕ) (input : List ℕ) → ((s : Status) (text : List ℕ) → AnswersTo o input s text → ⊥) → ⊥
+by_budget None input none = none Usage usage_line refl
+by_budget (Some budget) input none = of_length input budget none (longer_or MOST_BYTES (length input))
 
 pub some_answer : SomeAnswer
-some_answer words input none folds = by_budget (budget_in words) input none folds
+some_answer words input none = by_budget (budget_in words) input none

@@ -1,10 +1,5 @@
 -- What the program answers and writes. This project's own.
 use Rattle.std.specs.Prelude.{ℕ, ◌≡◌, ◌⊎◌, IfSome, List, Option, Some, None}
-use Rattle.ff_types.specs.declared.patterns.Pattern.{Pattern}
-use Rattle.ff_types.specs.declared.faces.Faces.{Faces}
-use Rattle.ff_types.specs.declared.faces.Folded.{Folded}
-use Rattle.ff_types.specs.FoldedPatterns.{IsFoldedPattern}
-use Rattle.ff_read.specs.Read.{IsReadAs}
 use Rattle.ff_top.specs.Texts.{usage_line}
 use Rattle.ff_top.specs.Asking.{budget_in}
 use Rattle.ff_top.specs.Solving.{AnswersSolve}
@@ -26,11 +21,9 @@ IsAnswer words input status text = AnswersTo (budget_in words) input status text
 abbrev pub OneAnswer : Type 0
 OneAnswer = (words : List (List ℕ)) (input : List ℕ) (s t : Status) (x y : List ℕ) → IsAnswer words input s x → IsAnswer words input t y → (s ≡ t) × (x ≡ y)
 
--- Words and an input without an answer would be of a pattern that folds: every other one is refused. It is said by what
--- can't be, since no definition decides which it is. That a pattern that folds has its answer is shown by each run of it.
+-- No words and no input are without an answer. It is said by what can't be, since no definition decides which it is.
 abbrev pub SomeAnswer : Type 0
-SomeAnswer = (words : List (List ℕ)) (input : List ℕ) → ((s : Status) (text : List ℕ) → IsAnswer words input s text → ⊥)
-    → ((p : Pattern) (faces : Faces) (folded : Folded) → IsReadAs input p → IsFoldedPattern p faces folded → ⊥) → ⊥
+SomeAnswer = (words : List (List ℕ)) (input : List ℕ) → ((s : Status) (text : List ℕ) → IsAnswer words input s text → ⊥) → ⊥
 
 -- an answer was prepared: neither a read fault nor want of memory
 abbrev pub IsAnswered : Status → Type 0

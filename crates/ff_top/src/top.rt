@@ -91,7 +91,7 @@ pub fn one_answer()
     ensures { OneAnswer }
 {}
 
-/// A law: words and an input without an answer would be of a pattern that folds.
+/// A law: no words and no input are without an answer.
 pub fn some_answer()
     ensures { SomeAnswer }
 {}

@@ -1,0 +1,4 @@
+pub mod Deciding
+pub mod Closures
+pub mod Classes
+pub mod Ending
