@@ -5,12 +5,12 @@ ghost use Rattle.ff_whole.specs.Points.{IsNear};
 ghost use Rattle.ff_whole.specs.declared.points.Pt.{Pt as PtRow};
 ghost use Rattle.ff_types.specs.Rings.{corner};
 ghost use Rattle.ff_types.specs.Faces.{ring_at};
-ghost use Rattle.ff_planar.specs.Extents.{extent_at, IsAround, AreInOrder as AreFromWest};
+ghost use Rattle.ff_drawn.specs.Extents.{extent_at, IsAround, AreInOrder as AreFromWest};
 ghost use Rattle.ff_planar.specs.Reflex.{AreThere, IsInside};
 ghost use Rattle.ff_planar.specs.Frames.{IsVertexExtent, AreVertexExtents, IsAroundCorners, IsRingExtent, AreRingExtents, AreSome, AreWest, HoldsNone, AreHollow, NoneInside};
 
-use crate::extents::{Extent, high_of, is_south_of, is_west_of, low_of, order};
 use crate::reflex::is_inside;
+use ff_drawn::{Extent, high_of, is_south_of, is_west_of, low_of, order};
 use ff_tables::{Items, NoMemory};
 use ff_whole::Pt;
 use std::alloc::Global;
@@ -101,7 +101,7 @@ fn ring_extents(alloc: Global, points: &[Pt], rings: &[Items<u32>]) -> Result<Ve
     Ok(list)
 }
 
-// The place of the first vertex that isn't west of the ring.
+// The place of the first vertex that is east of the ring's west end.
 fn first_from(points: &[Pt], spots: &[Extent], frame: Extent, start: usize) -> usize
     requires spots { AreVertexExtents points.now spots.now }
     requires near { IsNear frame.low }
@@ -113,7 +113,7 @@ fn first_from(points: &[Pt], spots: &[Extent], frame: Extent, start: usize) -> u
     let _ = points.len();
     let mut place = start;
     while place < spots.len() {
-        if !is_west_of(spots[place].low, frame.low) {
+        if is_west_of(frame.low, spots[place].low) {
             return place;
         }
         place += 1;
@@ -150,7 +150,7 @@ fn holds_any(points: &[Pt], ring: &[u32], spots: &[Extent], frame: Extent, start
     ensures { result ≡ false → HoldsNone points.now ring.now spots.now start (length spots.now) }
 {
     for j in start..spots.len() {
-        if is_west_of(frame.high, spots[j].low) {
+        if !is_west_of(spots[j].low, frame.high) {
             return false;
         }
         if holds(points, ring, frame, spots[j]) {

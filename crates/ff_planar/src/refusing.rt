@@ -1,18 +1,18 @@
 //! Why a drawing has no faces.
 ghost use Rattle.std.specs.Prelude.{◌≡◌, ◌<◌, ◌≤◌, ◌^◌, List, Some, length, MatchResult};
-ghost use Rattle.ff_planar.specs.Graphs.{IsGraph};
-ghost use Rattle.ff_planar.specs.Drawn.{IsDrawnBy};
+ghost use Rattle.ff_drawn.specs.Graphs.{IsGraph};
+ghost use Rattle.ff_drawn.specs.Drawn.{IsDrawnBy};
 ghost use Rattle.ff_planar.specs.Traces.{AreTraced};
 ghost use Rattle.ff_planar.specs.Seen.{AreAllSeen};
 ghost use Rattle.ff_planar.specs.Given.{AreFound, IsNoRings};
 
-use crate::darts::Dart;
 use crate::frames::any_enclosed;
 use crate::joining::first_lost;
 use crate::outlines::first_pinch;
 use crate::reflex::{first_enclosed, first_reflex};
 use crate::sides::first_rim;
 use crate::traces::Side;
+use ff_drawn::Dart;
 use ff_tables::Items;
 use ff_types::{EdgeEnds, EdgeSides, Mark, No, Refusal};
 use ff_whole::Pt;

@@ -1,0 +1,9 @@
+use Rattle.ff_drawn.specs.Extents.{IsBeyond}
+use Rattle.ff_drawn.proofs.Halves.{part_takes, whole_part}
+use Rattle.ff_drawn.proofs.crossings.lower_part.Goals as goal
+
+pub loop-i-preserved : goal.loop-i-preserved
+loop-i-preserved c = rw c.in_ok-push.ensures.items (part_takes (λ e. IsBeyond c.args.is_upright c.args.at e → ⊥) c.args.list.now c.loop-i.i c.loop-i.part.items c.loop-i-test.true c.loop-i.invariant)
+
+pub returns : goal.returns
+returns c = whole_part (λ e. IsBeyond c.args.is_upright c.args.at e → ⊥) c.args.list.now c.loop-i.i c.loop-i.part.items c.loop-i-test.false c.loop-i.invariant
