@@ -64,11 +64,23 @@ first_not_less a b o m = by (int_cmp a b) (int_ranks a b) where
   by Equal l e = omega (arith, linear, l)
   by Greater l e = omega (arith, linear, l)
 
+second_not_less : (a b c d : ℤ) (m : Ordering) → a ≡ b → is_lt (ordering_then (ordering_then (int_cmp a b) (int_cmp c d)) m) ≡ false → d ≤ℤ c
+second_not_less a b c d m q = by (int_cmp a b) (int_ranks a b) (int_cmp c d) (int_ranks c d) where
+  by : (r : Ordering) → MatchOrdering r (a <ℤ b) (a ≡ b) (b <ℤ a) → (o : Ordering) → MatchOrdering o (c <ℤ d) (c ≡ d) (d <ℤ c) → is_lt (ordering_then (ordering_then r o) m) ≡ false → d ≤ℤ c
+  by Less l o k e = absurd (false≢true (sym e))
+  by Equal l Less k e = absurd (false≢true (sym e))
+  by Equal l Equal k e = omega (arith, linear, k)
+  by Equal l Greater k e = omega (arith, linear, k)
+  by Greater l o k e = omega (arith, linear, l, q)
+
 abbrev from : List Extent → ℕ → ℤ
 from list i = (extent_at list i).low.x
 
+abbrev up_from : List Extent → ℕ → ℤ
+up_from list i = (extent_at list i).low.y
+
 pub in_order : (list : List Extent) → IsSorted extent_cmp list → AreInOrder list
-in_order list s = record { rises = λ i j l m. up i j l m } where
+in_order list s = record { rises = λ i j l m. up i j l m; ties = λ i j l m e. north i j l m e } where
   step : (k : ℕ) → suc k < length list → from list k ≤ℤ from list (suc k)
   step k l = subst (λ n. from list k ≤ℤ from list n) (let q : k + 1 ≡ suc k = omega arith in q) (first_not_less _ _ _ _ (s k _ (omega arith) (omega (arith, l))))
 
@@ -77,6 +89,22 @@ in_order list s = record { rises = λ i j l m. up i j l m } where
   up i (suc j) l m = elim (last_or i j (omega (arith, l))) [
     | inl k ↦ let a = up i j k (omega (arith, m)) in let b = step j m in omega (arith, linear, a, b)
     | inr e ↦ subst (λ n. from list n ≤ℤ from list (suc j)) (sym e) (step j m)
+  ]
+
+  tie : (k : ℕ) → suc k < length list → from list k ≡ from list (suc k) → up_from list k ≤ℤ up_from list (suc k)
+  tie k l e = let q : k + 1 ≡ suc k = omega arith in
+      subst (λ n. up_from list k ≤ℤ up_from list n) q (second_not_less _ _ _ _ _ (ap (from list) q ∙ sym e) (s k _ (omega arith) (omega (arith, l))))
+
+  north : (i j : ℕ) → i < j → j < length list → from list i ≡ from list j → up_from list i ≤ℤ up_from list j
+  north i zero l m e = absurd (omega (arith, l))
+  north i (suc j) l m e = elim (last_or i j (omega (arith, l))) [
+    | inl k ↦
+        let a = up i j k (omega (arith, m)) in
+        let b = step j m in
+        let c = north i j k (omega (arith, m)) (omega (arith, linear, a, b, e)) in
+        let d = tie j m (omega (arith, linear, a, b, e)) in
+        omega (arith, linear, c, d)
+    | inr f ↦ subst (λ n. up_from list n ≤ℤ up_from list (suc j)) (sym f) (tie j m (ap (from list) (sym f) ∙ e))
   ]
 
 -- another order of the same extents

@@ -1,8 +1,10 @@
 pub mod EdgeCrossings
+pub mod Forks
 pub mod EdgeExtents
 pub mod Halves
 pub mod Eithers
 pub mod SamePoints
+pub mod VertexSpots
 pub mod BoxTests
 pub mod DartOrder
 pub mod SeenDarts

@@ -27,14 +27,14 @@ there_at edges k = record { tail = (edge_at edges k).a; head = (edge_at edges k)
 abbrev back_at : List EdgeEnds → ℕ → Dart
 back_at edges k = record { tail = (edge_at edges k).b; head = (edge_at edges k).a }
 
--- both darts of each of the first i edges are in the list, and only such
-pub record HasDarts (edges : List EdgeEnds) (i : ℕ) (darts : List Dart) : Type 0 where
+-- the darts along the first i edges are in the list, those back along the first j, and only such
+pub record HasDarts (edges : List EdgeEnds) (i j : ℕ) (darts : List Dart) : Type 0 where
   pub first : (k : ℕ) → k < i → Contains darts (record { tail = (edge_at edges k).a; head = (edge_at edges k).b })
-  pub second : (k : ℕ) → k < i → Contains darts (record { tail = (edge_at edges k).b; head = (edge_at edges k).a })
+  pub second : (k : ℕ) → k < j → Contains darts (record { tail = (edge_at edges k).b; head = (edge_at edges k).a })
   pub only : (q : Dart) → Contains darts q → IsTrue (joined edges q.tail q.head)
-  pub few : length darts ≤ i + i
+  pub few : length darts ≤ i + j
 
-pub no_darts : (edges : List EdgeEnds) → HasDarts edges 0 []
+pub no_darts : (edges : List EdgeEnds) → HasDarts edges 0 0 []
 no_darts edges = record {
   first = λ k l. absurd (omega (arith, l));
   second = λ k l. absurd (omega (arith, l));
@@ -51,46 +51,50 @@ back_joins e = rw (equal_itself e.a, equal_itself e.b) (last_true ((e.a == e.b) 
   last_true true = refl
   last_true false = refl
 
-kept : (darts : List Dart) (p q r : Dart) → Contains darts r → Contains ((darts ++ p ∷ []) ++ q ∷ []) r
-kept darts p q r h = Contains-append_left (darts ++ p ∷ []) (q ∷ []) r (Contains-append_left darts (p ∷ []) r h)
+kept : (darts : List Dart) (p r : Dart) → Contains darts r → Contains (darts ++ p ∷ []) r
+kept darts p r h = Contains-append_left darts (p ∷ []) r h
 
-module _ (edges : List EdgeEnds) (i : ℕ) (l : i < length edges) (darts : List Dart) (h : HasDarts edges i darts) where
-  from_edge : (q : Dart) → Contains ((darts ++ there_at edges i ∷ []) ++ back_at edges i ∷ []) q → IsTrue (joined edges q.tail q.head)
-  from_edge q m = elim (Contains-push_cases (darts ++ there_at edges i ∷ []) (back_at edges i) q m) [
-    | inr e ↦ subst (λ (p : Dart). IsTrue (joined edges p.tail p.head)) e (joined_at edges i _ _ l (back_joins (edge_at edges i)))
-    | inl n ↦ elim (Contains-push_cases darts (there_at edges i) q n) [
+module _ (edges : List EdgeEnds) (i j : ℕ) (darts : List Dart) (h : HasDarts edges i j darts) where
+  pub more_there : i < length edges → HasDarts edges (i + 1) j (darts ++ there_at edges i ∷ [])
+  more_there l = record {
+    first = λ k m. elim (last_or k i m) [
+      | inl n ↦ kept darts _ _ (h.first k n)
+      | inr e ↦ subst (λ (j : ℕ). Contains (darts ++ there_at edges i ∷ []) (there_at edges j)) (sym e) (Contains-push darts (there_at edges i))
+    ];
+    second = λ k m. kept darts _ _ (h.second k m);
+    only = λ q m. elim (Contains-push_cases darts (there_at edges i) q m) [
       | inr e ↦ subst (λ (p : Dart). IsTrue (joined edges p.tail p.head)) e (joined_at edges i _ _ l (joins_itself (edge_at edges i).a (edge_at edges i).b))
       | inl o ↦ h.only q o
-    ]
-  ]
+    ];
+    few = (let n = h.few in let a = length_push darts (there_at edges i) in omega (arith, n, a));
+  }
 
-  pub more_darts : HasDarts edges (i + 1) ((darts ++ there_at edges i ∷ []) ++ back_at edges i ∷ [])
-  more_darts = record {
-    first = λ k m. elim (last_or k i m) [
-      | inl n ↦ kept darts _ _ _ (h.first k n)
-      | inr e ↦ subst (λ (j : ℕ). Contains ((darts ++ there_at edges i ∷ []) ++ back_at edges i ∷ []) (there_at edges j)) (sym e)
-          (Contains-append_left (darts ++ there_at edges i ∷ []) (back_at edges i ∷ []) _ (Contains-push darts (there_at edges i)))
+  pub more_back : j < length edges → HasDarts edges i (j + 1) (darts ++ back_at edges j ∷ [])
+  more_back l = record {
+    first = λ k m. kept darts _ _ (h.first k m);
+    second = λ k m. elim (last_or k j m) [
+      | inl n ↦ kept darts _ _ (h.second k n)
+      | inr e ↦ subst (λ (i : ℕ). Contains (darts ++ back_at edges j ∷ []) (back_at edges i)) (sym e) (Contains-push darts (back_at edges j))
     ];
-    second = λ k m. elim (last_or k i m) [
-      | inl n ↦ kept darts _ _ _ (h.second k n)
-      | inr e ↦ subst (λ (j : ℕ). Contains ((darts ++ there_at edges i ∷ []) ++ back_at edges i ∷ []) (back_at edges j)) (sym e) (Contains-push (darts ++ there_at edges i ∷ []) (back_at edges i))
+    only = λ q m. elim (Contains-push_cases darts (back_at edges j) q m) [
+      | inr e ↦ subst (λ (p : Dart). IsTrue (joined edges p.tail p.head)) e (joined_at edges j _ _ l (back_joins (edge_at edges j)))
+      | inl o ↦ h.only q o
     ];
-    only = from_edge;
-    few = (let n = h.few in let a = length_push darts (there_at edges i) in let b = length_push (darts ++ there_at edges i ∷ []) (back_at edges i) in omega (arith, n, a, b));
+    few = (let n = h.few in let a = length_push darts (back_at edges j) in omega (arith, n, a));
   }
 
 -- all of them
-pub hold_darts : (edges : List EdgeEnds) (i : ℕ) (darts : List Dart) → HasDarts edges i darts → length edges ≤ i → i ≤ length edges → HoldDarts edges darts
-hold_darts edges i darts h l up = record {
-  few = (let n = h.few in omega (arith, n, up));
+pub hold_darts : (edges : List EdgeEnds) (i j : ℕ) (darts : List Dart) → HasDarts edges i j darts → length edges ≤ i → i ≤ length edges → length edges ≤ j → j ≤ length edges → HoldDarts edges darts
+hold_darts edges i j darts h l up m high = record {
+  few = (let n = h.few in omega (arith, n, up, high));
   only = h.only;
-  has = λ u v j. there u v (some_joins edges u v j);
+  has = λ u v s. there u v (some_joins edges u v s);
 }
   where
     there : (u v : ℕ) → (e : ℕ) × (e < length edges) × IsTrue (joins u v (edge_at edges e)) → Contains darts (record { tail = u; head = v })
-    there u v s = let m = s.1 in elim (joins_is (edge_at edges s.0) u v s.2) [
-      | inl e ↦ subst (Contains darts) (λ i. record { tail = e.0 i; head = e.1 i }) (h.first s.0 (omega (arith, l)))
-      | inr e ↦ subst (Contains darts) (λ i. record { tail = e.1 i; head = e.0 i }) (h.second s.0 (omega (arith, l)))
+    there u v s = let o = s.1 in elim (joins_is (edge_at edges s.0) u v s.2) [
+      | inl e ↦ subst (Contains darts) (λ i. record { tail = e.0 i; head = e.1 i }) (h.first s.0 (omega (arith, l, o)))
+      | inr e ↦ subst (Contains darts) (λ i. record { tail = e.1 i; head = e.0 i }) (h.second s.0 (omega (arith, m, o)))
     ]
 
 -- ---- in order

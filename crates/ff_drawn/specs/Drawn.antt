@@ -8,6 +8,8 @@ use Rattle.ff_types.specs.declared.refusals.Refusal.{Refusal}
 use Rattle.ff_types.specs.declared.refusals.Refusal.TheVariants.{SamePoint, Crossing, Loose}
 use Rattle.ff_types.specs.Drawings.{IsEnd, Common, HasTwoEdges, IsDrawing}
 use Rattle.ff_drawn.specs.declared.darts.Dart.{Dart}
+use Rattle.ff_drawn.specs.declared.extents.Extent.{Extent}
+use Rattle.ff_drawn.specs.Extents.{AreSpots}
 use Rattle.ff_drawn.specs.Darts.{AreDarts, AreStarts}
 use Rattle.ff_types.specs.FaceRefusals.{IsLeast, LooseAt, IsFirstCrossing, NoCrossing, RefusesFaces}
 
@@ -30,10 +32,11 @@ pub record IsDrawnBy (points : List Pt) (edges : List EdgeEnds) (darts : List Da
   pub drawing : IsDrawing points edges
   pub darts_are : AreDarts edges darts
 
--- and where those that leave each vertex begin
-pub record IsDrawnAt (points : List Pt) (edges : List EdgeEnds) (darts : List Dart) (starts : List ℕ) : Type 0 where
+-- and where those that leave each vertex begin, and the vertices from west to east
+pub record IsDrawnAt (points : List Pt) (edges : List EdgeEnds) (darts : List Dart) (starts : List ℕ) (spots : List Extent) : Type 0 where
   pub drawn : IsDrawnBy points edges darts
   pub starts_are : AreStarts darts (length points) starts
+  pub spots_are : AreSpots points spots
 
 -- the refusal of what is no drawing
 abbrev pub RefusesDrawing : List Pt → List EdgeEnds → Refusal → Type 0

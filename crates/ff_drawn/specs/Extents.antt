@@ -3,6 +3,7 @@ use Rattle.std.specs.Prelude.{◌≡◌, ℕ, ◌<◌, ◌<ℤ◌, ◌≤ℤ◌,
 use Rattle.std.specs.List.{Contains}
 use Rattle.ff_whole.specs.declared.points.Pt.{Pt}
 use Rattle.ff_whole.specs.Points.{origin, IsNear}
+use Rattle.ff_whole.specs.Convex.{point_at}
 use Rattle.ff_types.specs.declared.patterns.EdgeEnds.{EdgeEnds}
 use Rattle.ff_types.specs.Patterns.{edge_at}
 use Rattle.ff_types.specs.Drawings.{first_point, last_point}
@@ -39,6 +40,8 @@ pub record AreEdgeExtents (points : List Pt) (edges : List EdgeEnds) (list : Lis
 -- from west to east
 pub record AreInOrder (list : List Extent) : Type 0 where
   pub rises : (i j : ℕ) → i < j → j < length list → (extent_at list i).low.x ≤ℤ (extent_at list j).low.x
+  -- and there from south to north
+  pub ties : (i j : ℕ) → i < j → j < length list → (extent_at list i).low.x ≡ (extent_at list j).low.x → (extent_at list i).low.y ≤ℤ (extent_at list j).low.y
 
 -- the two edges cross, whichever comes first
 pub record AreNotCrossing (points : List Pt) (edges : List EdgeEnds) (e k : ℕ) : Type 0 where
@@ -67,3 +70,18 @@ Reaches false at e = at.y <ℤ e.high.y
 pub record IsPart (P : Extent → Type 0) (list part : List Extent) : Type 0 where
   pub only : (e : Extent) → Contains part e → Contains list e
   pub all : (e : Extent) → Contains list e → P e → Contains part e
+
+-- the extent's low end is the vertex
+pub record IsVertexExtent (points : List Pt) (e : Extent) : Type 0 where
+  pub low_near : IsNear e.low
+  pub there : e.number < length points
+  pub low_is : e.low ≡ point_at points e.number
+
+pub record AreVertexExtents (points : List Pt) (list : List Extent) : Type 0 where
+  pub each : (i : ℕ) → i < length list → IsVertexExtent points (extent_at list i)
+  pub all : (v : ℕ) → v < length points → (i : ℕ) × (i < length list) × ((extent_at list i).number ≡ v)
+
+-- an extent for each vertex, from west to east
+pub record AreSpots (points : List Pt) (list : List Extent) : Type 0 where
+  pub vertices : AreVertexExtents points list
+  pub in_order : AreInOrder list

@@ -55,6 +55,23 @@ fn meet(points: &[Pt], edges: &[EdgeEnds], e: Extent, k: Extent) -> bool
     are_crossing(points, edges, e.number as usize, k.number as usize)
 }
 
+// The same, where nothing is known of where they lie.
+fn meet_anywhere(points: &[Pt], edges: &[EdgeEnds], e: Extent, k: Extent) -> bool
+    requires graph { IsGraph points.now edges.now }
+    requires apart { AreApart points.now }
+    requires first { IsAroundEdge points.now edges.now e }
+    requires second { IsAroundEdge points.now edges.now k }
+    ensures { result ≡ false → AreNotCrossing points.now edges.now e.number k.number }
+{
+    if is_west_of(e.high, k.low) {
+        return false;
+    }
+    if is_west_of(k.high, e.low) {
+        return false;
+    }
+    meet(points, edges, e, k)
+}
+
 // Whether the edge at a place crosses one of those after it.
 fn crosses_later(points: &[Pt], edges: &[EdgeEnds], list: &[Extent], i: usize) -> bool
     requires graph { IsGraph points.now edges.now }
@@ -102,6 +119,38 @@ fn any_among(points: &[Pt], edges: &[EdgeEnds], list: &mut [Extent]) -> bool
 {
     order(list);
     any_later(points, edges, list)
+}
+
+// Whether the edge at a place crosses one of those after it, in any order.
+fn crosses_another(points: &[Pt], edges: &[EdgeEnds], list: &[Extent], i: usize) -> bool
+    requires graph { IsGraph points.now edges.now }
+    requires apart { AreApart points.now }
+    requires extents { AreRound points.now edges.now list.now }
+    requires within { i < length list.now }
+    ensures { result ≡ false → CrossesNone points.now edges.now list.now i (length list.now) }
+{
+    let e = list[i];
+    for j in i + 1..list.len() {
+        if meet_anywhere(points, edges, e, list[j]) {
+            return true;
+        }
+    }
+    false
+}
+
+// Whether two of a few edges cross.
+fn any_pair(points: &[Pt], edges: &[EdgeEnds], list: &[Extent]) -> bool
+    requires graph { IsGraph points.now edges.now }
+    requires apart { AreApart points.now }
+    requires extents { AreRound points.now edges.now list.now }
+    ensures { result ≡ false → NoneCross points.now edges.now list.now }
+{
+    for i in 0..list.len() {
+        if crosses_another(points, edges, list, i) {
+            return true;
+        }
+    }
+    false
 }
 
 fn halfway(a: i64, b: i64) -> i64
@@ -169,7 +218,7 @@ fn lower_part(
     ensures { IfOk result (λ part. IsPart (λ e. IsBeyond is_upright at e → ⊥) list.now part.items) }
 {
     let _ = (points.len(), edges.len());
-    let mut part = Vec::new(alloc);
+    let mut part = Vec::with_capacity(alloc, list.len())?;
     for i in 0..list.len() {
         if is_beyond(list[i], at, is_upright) {
             continue;
@@ -193,7 +242,7 @@ fn upper_part(
     ensures { IfOk result (λ part. IsPart (Reaches is_upright at) list.now part.items) }
 {
     let _ = (points.len(), edges.len());
-    let mut part = Vec::new(alloc);
+    let mut part = Vec::with_capacity(alloc, list.len())?;
     for i in 0..list.len() {
         if !reaches(list[i], at, is_upright) {
             continue;
@@ -232,7 +281,10 @@ fn any_within(
     requires high { IsNear high }
     ensures { IfOk result (λ any. any ≡ false → NoneCross points.now edges.now list.old) }
 {
-    if halvings == 0 || list.len() <= FEW {
+    if list.len() <= FEW {
+        return Ok(any_pair(points, edges, list));
+    }
+    if halvings == 0 {
         return Ok(any_among(points, edges, list));
     }
     let at = middle_of(low, high);

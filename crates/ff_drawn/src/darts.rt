@@ -1,5 +1,6 @@
 //! Directed edges, in order.
-ghost use Rattle.std.specs.Prelude.{◌≡◌, IfOk};
+ghost use Rattle.std.specs.Prelude.{◌≡◌, ◌≤◌, length, IfOk};
+ghost use Rattle.ff_types.specs.declared.limits.TheConstants.{MOST_EDGES};
 ghost use Rattle.ff_drawn.specs.Darts.{AreDarts, HoldDarts, comes_before as dart_before};
 
 use ff_tables::NoMemory;
@@ -13,19 +14,22 @@ pub struct Dart {
     pub head: u32,
 }
 
-// Both darts of each edge.
+// Both darts of each edge: all along their edges first, so that edges in order leave long runs in order.
 fn both_ways(alloc: Global, edges: &[EdgeEnds]) -> Result<Vec<Dart>, NoMemory>
+    requires few { length edges.now ≤ MOST_EDGES }
     ensures { IfOk result (λ darts. HoldDarts edges.now darts.items) }
 {
-    let mut darts = Vec::new(alloc);
-    for ends in edges {
+    let mut darts = Vec::with_capacity(alloc, edges.len() * 2)?;
+    for there in edges {
         darts.push(Dart {
-            tail: ends.a,
-            head: ends.b,
+            tail: there.a,
+            head: there.b,
         })?;
+    }
+    for back in edges {
         darts.push(Dart {
-            tail: ends.b,
-            head: ends.a,
+            tail: back.b,
+            head: back.a,
         })?;
     }
     Ok(darts)
@@ -33,10 +37,11 @@ fn both_ways(alloc: Global, edges: &[EdgeEnds]) -> Result<Vec<Dart>, NoMemory>
 
 /// The darts of the edges, in order.
 pub fn darts_of(alloc: Global, edges: &[EdgeEnds]) -> Result<Vec<Dart>, NoMemory>
+    requires few { length edges.now ≤ MOST_EDGES }
     ensures { IfOk result (λ darts. AreDarts edges.now darts.items) }
 {
     let mut darts = both_ways(alloc, edges)?;
-    darts.sort_unstable();
+    darts.sort()?;
     darts.dedup();
     Ok(darts)
 }

@@ -7,11 +7,14 @@ ghost use Rattle.ff_drawn.specs.Graphs.{IsGraph};
 ghost use Rattle.ff_drawn.specs.Firsts.{IsFirst};
 ghost use Rattle.ff_drawn.specs.Drawn.{FirstCross, FirstLoose, IsDrawnAt, IsNoDrawing};
 ghost use Rattle.ff_drawn.specs.Darts.{AreDarts, AreStarts};
+ghost use Rattle.ff_drawn.specs.Extents.{AreSpots};
 
 use crate::crossings::any_crossing;
 use crate::darts::{Dart, darts_of};
+use crate::extents::Extent;
 use crate::leaving::{has_two_edges, starts_of};
 use crate::segments::cross;
+use crate::spots::{any_same, spots_of};
 use ff_tables::NoMemory;
 use ff_types::{EdgeEnds, No, Pattern, Refusal};
 use ff_whole::Pt;
@@ -29,6 +32,18 @@ fn first_same_point(alloc: Global, points: &[Pt]) -> Result<Option<usize>, NoMem
         }
     }
     Ok(None)
+}
+
+// The first vertex at the point of an earlier one, looked for one by one only where any is.
+fn same_point(alloc: Global, points: &[Pt], spots: &[Extent]) -> Result<Option<usize>, NoMemory>
+    requires { AreSpots points.now spots.now }
+    ensures { IfOk result (λ first. IsFirst (SamePointAt points.now) first) }
+{
+    if any_same(points, spots) {
+        first_same_point(alloc, points)
+    } else {
+        Ok(None)
+    }
 }
 
 // The first edge after `e` that crosses it.
@@ -92,19 +107,22 @@ fn first_loose(points: &[Pt], edges: &[EdgeEnds], darts: &[Dart], starts: &[u32]
     None
 }
 
-/// The darts of a drawing, and for each vertex, and one past the last, where those that leave it begin.
+/// The darts of a drawing; for each vertex, and one past the last, where those that leave it begin; and the vertices from
+/// west to east.
 #[derive(Drop)]
 pub struct Drawn {
     pub darts: Vec<Dart>,
     pub starts: Vec<u32>,
+    pub spots: Vec<Extent>,
 }
 
 /// The darts of the drawing that these points and edges are, or why they are none.
 pub fn drawn_darts(alloc: Global, points: &[Pt], edges: &[EdgeEnds]) -> Result<Drawn, No>
     requires graph { IsGraph points.now edges.now }
-    ensures { MatchResult result (λ drawn. IsDrawnAt points.now edges.now drawn.darts.items drawn.starts.items) (IsNoDrawing points.now edges.now) }
+    ensures { MatchResult result (λ drawn. IsDrawnAt points.now edges.now drawn.darts.items drawn.starts.items drawn.spots.items) (IsNoDrawing points.now edges.now) }
 {
-    if let Some(v) = first_same_point(alloc, points)? {
+    let spots = spots_of(alloc, points)?;
+    if let Some(v) = same_point(alloc, points, &spots)? {
         return Err(No::Refused(Refusal::SamePoint { v: v as u32 }));
     }
     if let Some((e, k)) = crossing(alloc, points, edges)? {
@@ -118,7 +136,11 @@ pub fn drawn_darts(alloc: Global, points: &[Pt], edges: &[EdgeEnds]) -> Result<D
     if let Some(v) = first_loose(points, edges, &darts, &starts) {
         return Err(No::Refused(Refusal::Loose { v: v as u32 }));
     }
-    Ok(Drawn { darts, starts })
+    Ok(Drawn {
+        darts,
+        starts,
+        spots,
+    })
 }
 
 /// Whether the pattern is a drawing: refused at the first vertex that stands at the point of an earlier one, then at the

@@ -7,6 +7,7 @@ mod drawings;
 mod extents;
 mod leaving;
 mod segments;
+mod spots;
 
 pub use darts::Dart;
 pub use drawings::{Drawn, drawing, drawn_darts};

@@ -2,7 +2,9 @@
 ghost use Rattle.std.specs.Prelude.{◌≡◌, ◌≢◌, ◌<◌, ◌↔◌, ◌⊎◌, IsTrue, pos, ◌<ℤ◌, length};
 ghost use Rattle.ff_whole.specs.Points.{IsNear, minus, dot, turn};
 ghost use Rattle.ff_whole.proofs.SegmentPoints.{IsWithin, AreOpposite, AreCrossing};
-ghost use Rattle.ff_types.specs.Patterns.{edge_at};
+ghost use Rattle.std.specs.List.{All};
+ghost use Rattle.ff_types.specs.Patterns.{edge_at, Joins};
+ghost use Rattle.ff_types.specs.Drawings.{first_point, last_point};
 ghost use Rattle.ff_types.specs.FaceRefusals.{CrossingAt};
 ghost use Rattle.ff_whole.specs.Convex.{AreApart};
 ghost use Rattle.ff_drawn.specs.Graphs.{IsGraph};
@@ -213,6 +215,42 @@ fn are_apart(a: Pt, b: Pt, c: Pt, d: Pt) -> bool
     is_beside(a, b, c, d)
 }
 
+fn has_end(e: EdgeEnds, v: u32) -> bool
+    ensures { IsTrue result ↔ ((v ≡ e.a) ⊎ (v ≡ e.b)) }
+{
+    v == e.a || v == e.b
+}
+
+// Whether `p` is off the line from `a` to `b`.
+fn is_off(a: Pt, b: Pt, p: Pt) -> bool
+    requires a_near { IsNear a }
+    requires b_near { IsNear b }
+    requires p_near { IsNear p }
+    ensures { IsTrue result ↔ ((pos 0 <ℤ turn a b p) ⊎ (turn a b p <ℤ pos 0)) }
+{
+    if is_left(a, b, p) {
+        return true;
+    }
+    is_right(a, b, p)
+}
+
+// Whether two edges leave a common vertex along different lines.
+fn are_forked(points: &[Pt], e: EdgeEnds, k: EdgeEnds) -> bool
+    requires near { All IsNear points.now }
+    requires first { Joins (length points.now) e }
+    requires second { Joins (length points.now) k }
+    ensures { IsTrue result → AreCrossing (first_point points.now e) (last_point points.now e) (first_point points.now k) (last_point points.now k) → ⊥ }
+{
+    let (a, b) = (points[e.a as usize], points[e.b as usize]);
+    if has_end(e, k.a) {
+        return is_off(a, b, points[k.b as usize]);
+    }
+    if has_end(e, k.b) {
+        return is_off(a, b, points[k.a as usize]);
+    }
+    false
+}
+
 /// Whether the edges `e` and `k`, the one of the lesser number first, share a point that isn't an end of both.
 pub fn cross(points: &[Pt], edges: &[EdgeEnds], e: usize, k: usize) -> bool
     requires graph { IsGraph points.now edges.now }
@@ -224,6 +262,9 @@ pub fn cross(points: &[Pt], edges: &[EdgeEnds], e: usize, k: usize) -> bool
     let (first, second) = (edges[e], edges[k]);
     let (a, b) = (points[first.a as usize], points[first.b as usize]);
     let (c, d) = (points[second.a as usize], points[second.b as usize]);
+    if are_forked(points, first, second) {
+        return false;
+    }
     if are_apart(a, b, c, d) {
         return false;
     }

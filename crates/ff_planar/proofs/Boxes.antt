@@ -18,9 +18,10 @@ use Rattle.ff_whole.proofs.Slabs.{left-closed}
 use Rattle.ff_types.specs.Rings.{corner}
 use Rattle.ff_types.specs.Faces.{ring_at}
 use Rattle.ff_drawn.specs.declared.extents.Extent.{Extent}
+use Rattle.ff_drawn.proofs.VertexSpots.{same_each, same_all}
 use Rattle.ff_planar.specs.Reflex.{IsInside}
-use Rattle.ff_drawn.specs.Extents.{extent_at, IsAround, AreInOrder}
-use Rattle.ff_planar.specs.Frames.{IsVertexExtent, AreVertexExtents, IsAroundCorners, IsRingExtent, AreRingExtents, AreWest, HoldsNone, AreHollow, NoneInside}
+use Rattle.ff_drawn.specs.Extents.{extent_at, IsAround, AreInOrder, IsVertexExtent, AreVertexExtents}
+use Rattle.ff_planar.specs.Frames.{IsAroundCorners, IsRingExtent, AreRingExtents, AreWest, HoldsNone, AreHollow, NoneInside}
 
 last_or : (k n : ℕ) → k < n + 1 → (k < n) ⊎ (k ≡ n)
 last_or k n l = grind arith
@@ -146,31 +147,8 @@ module _ (points : List Pt) (ring : List ℕ) (v : ℕ) (some : 0 < length ring)
 
 -- ---- lists of extents
 
--- what holds of each, in another order
-same_each : (P : Extent → Type 0) (old new : List Extent) → IsPermutation old new → ((i : ℕ) → i < length old → P (extent_at old i)) → (i : ℕ) → i < length new → P (extent_at new i)
-same_each P old new p h i l =
-    let c = Contains-permutation new old (extent_at new i) (IsPermutation-sym old new p) (Contains-get_or new i _ l) in
-    subst P (get_or_default old c.0 _ (extent_at new i) c.1 ∙ c.2) (h c.0 c.1)
-
-same_all : (n : ℕ) (old new : List Extent) → IsPermutation old new → ((k : ℕ) → k < n → (i : ℕ) × (i < length old) × ((extent_at old i).number ≡ k)) → (k : ℕ) → k < n → (i : ℕ) × (i < length new) × ((extent_at new i).number ≡ k)
-same_all n old new p h k l =
-    let r = h k l in
-    let c = Contains-permutation old new (extent_at old r.0) p (Contains-get_or old r.0 _ r.1) in
-    (c.0, c.1, ap (λ (x : Extent). x.number) (get_or_default new c.0 _ (extent_at old r.0) c.1 ∙ c.2) ∙ r.2)
-
-pub same_vertices : (points : List Pt) (old new : List Extent) → AreVertexExtents points old → IsPermutation old new → AreVertexExtents points new
-same_vertices points old new a p = record { each = same_each (IsVertexExtent points) old new p a.each; all = same_all (length points) old new p a.all }
-
 pub same_rings : (points : List Pt) (rings : List (List ℕ)) (old new : List Extent) → AreRingExtents points rings old → IsPermutation old new → AreRingExtents points rings new
 same_rings points rings old new a p = record { each = same_each (IsRingExtent points rings) old new p a.each; all = same_all (length rings) old new p a.all }
-
--- one more, with the next number
-pub each_more : (P : Extent → Type 0) (list : List Extent) (n : ℕ) (new : Extent) → length list ≡ n → ((k : ℕ) → k < n → P (extent_at list k) × ((extent_at list k).number ≡ k))
-    → P new → new.number ≡ n → (k : ℕ) → k < n + 1 → P (extent_at (list ++ new ∷ []) k) × ((extent_at (list ++ new ∷ []) k).number ≡ k)
-each_more P list n new e h a m k l = elim (last_or k n l) [
-  | inl o ↦ subst (λ x. P x × (x.number ≡ k)) (sym (get_or_append_left list (new ∷ []) _ k (omega (arith, o, e)))) (h k o)
-  | inr o ↦ subst (λ x. P x × (x.number ≡ k)) (sym (get_or_push list new _ k (e ∙ sym o))) (a, m ∙ sym o)
-]
 
 -- one corner more
 pub around_more : (points : List Pt) (ring : List ℕ) (n : ℕ) (old new : Extent) → IsAroundCorners points ring n old → IsNear new.low → IsNear new.high → IsAround (point_at points (corner ring n)) new

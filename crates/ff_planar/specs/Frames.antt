@@ -9,16 +9,6 @@ use Rattle.ff_drawn.specs.declared.extents.Extent.{Extent}
 use Rattle.ff_planar.specs.Reflex.{IsInside}
 use Rattle.ff_drawn.specs.Extents.{extent_at, IsAround}
 
--- the extent's low end is the vertex
-pub record IsVertexExtent (points : List Pt) (e : Extent) : Type 0 where
-  pub low_near : IsNear e.low
-  pub there : e.number < length points
-  pub low_is : e.low ≡ point_at points e.number
-
-pub record AreVertexExtents (points : List Pt) (list : List Extent) : Type 0 where
-  pub each : (i : ℕ) → i < length list → IsVertexExtent points (extent_at list i)
-  pub all : (v : ℕ) → v < length points → (i : ℕ) × (i < length list) × ((extent_at list i).number ≡ v)
-
 -- the first n corners of a ring are within the extent
 pub record IsAroundCorners (points : List Pt) (ring : List ℕ) (n : ℕ) (e : Extent) : Type 0 where
   pub low_near : IsNear e.low

@@ -51,6 +51,7 @@ pub fn find(
         &traced.rings,
         &traced.sides,
         &seen,
+        &drawn.spots,
     )?;
     Ok(Found {
         rings: traced.rings,

@@ -8,5 +8,5 @@ pub returns : goal.returns
 returns c =
     let bound = c.dedup.ensures.bound in
     let new = c.dedup.new.self.ok.0 in
-    let old = c.sort_unstable.new.self.ok.0 in
-    darts_from _ matches_eq-law _ _ _ _ c.in_ok-darts.ensures c.sort_unstable.ensures.permutation c.sort_unstable.ensures.sorted (dedup_is _ _ _ c.dedup.ensures.filtered) (omega (arith, bound, new, old))
+    let old = c.sort.new.self.ok.0 in
+    darts_from _ matches_eq-law _ _ _ _ c.in_ok-darts.ensures c.in_ok-sort.ensures.permutation c.in_ok-sort.ensures.sorted (dedup_is _ _ _ c.dedup.ensures.filtered) (omega (arith, bound, new, old))

@@ -19,5 +19,6 @@ returns c =
     let two = subst (FirstLoose points edges) c.in_default-first_loose.is c.first_loose.ensures in
     record {
       drawn = record { drawing = drawing_from points edges c.requires.graph same cross two; darts_are = c.in_ok-darts.ensures };
-      starts_are = subst (λ (d : List Dart). AreStarts d (length points) c.in_ok-starts.starts.items) c.deref.ensures.value c.in_ok-starts.ensures;
+      starts_are = subst (λ (d : List Dart). AreStarts d (length points) c.in_ok-starts.starts.items) c.deref-2.ensures.value c.in_ok-starts.ensures;
+      spots_are = c.in_ok-spots.ensures;
     }

@@ -1,7 +1,7 @@
 use Rattle.std.proofs.Common.{◌≡◌, ℕ, ◌<◌, length}
 use Rattle.ff_drawn.specs.Extents.{extent_at}
-use Rattle.ff_planar.specs.Frames.{IsVertexExtent}
-use Rattle.ff_planar.proofs.frames.vertex_extents.Given as goal
+use Rattle.ff_drawn.specs.Extents.{IsVertexExtent}
+use Rattle.ff_drawn.proofs.spots.vertex_extents.Given as goal
 
 abbrev pub invariant-loop-v : goal.invariant-loop-v
 invariant-loop-v l = record {

@@ -1,8 +1,8 @@
 use Rattle.std.proofs.Common.{◌+◌, ◌<◌, ◌∙◌, ap, arith}
 use Rattle.std.proofs.lemmas.List.{length_push}
-use Rattle.ff_planar.specs.Frames.{IsVertexExtent}
-use Rattle.ff_planar.proofs.Boxes.{each_more}
-use Rattle.ff_planar.proofs.frames.vertex_extents.Goals as goal
+use Rattle.ff_drawn.specs.Extents.{IsVertexExtent}
+use Rattle.ff_drawn.proofs.VertexSpots.{each_more}
+use Rattle.ff_drawn.proofs.spots.vertex_extents.Goals as goal
 
 pub loop-v-preserved : goal.loop-v-preserved
 loop-v-preserved c =
