@@ -1,12 +1,10 @@
 -- The order of darts, in which only a dart itself is equal to it.
-use Rattle.std.proofs.Common.{◌≡◌, ◌⊎◌, inl, inr, ℕ, zero, suc, ◌<◌, List, [], ◌∷◌, length, Bool, true, false, ◌||◌, get_or, arith, refl, sym, ap, subst, Ordering, Less, Equal, Greater}
+use Rattle.std.proofs.Common.{◌≡◌, ◌⊎◌, inl, inr, ℕ, zero, suc, ◌<◌, List, [], ◌∷◌, length, true, get_or, arith, refl, Ordering, Less, Equal, Greater}
 use Rattle.std.specs.Ordering.{nat_cmp, ordering_then, MatchOrdering, is_eq}
-use Rattle.std.specs.Cmp.{nat_cmp_is, ranks}
-use Rattle.std.specs.List.{list_any, AllByRecursion, Contains}
+use Rattle.std.specs.Cmp.{ranks}
+use Rattle.std.specs.List.{AllByRecursion, Contains}
 use Rattle.std.specs.List.Sorted.{IsStrictlySortedBy}
-use Rattle.std.specs.BTreeMap.{is_at}
 use Rattle.std.proofs.lemmas.Bool.{false≢true}
-use Rattle.std.proofs.lemmas.Map.Views.{Contains-from_any}
 use Rattle.ff_drawn.specs.contracts.darts.DartOrd.TheImpl as order
 use Rattle.ff_drawn.specs.declared.darts.Dart.{Dart}
 use Rattle.ff_drawn.specs.Darts.{dart_at, ComesBefore}
@@ -40,9 +38,6 @@ before_parts p q Greater b x y e = absurd cc
 pub dart_cmp-less : (p q : Dart) → dart_cmp p q ≡ Less → ComesBefore p q
 dart_cmp-less p q h = before_parts p q (nat_cmp p.tail q.tail) (nat_cmp p.head q.head) (ranks p.tail q.tail) (ranks p.head q.head) h
 
-pub dart_cmp-same : (p : Dart) → dart_cmp p p ≡ Equal
-dart_cmp-same p = rw (← nat_cmp_is p.tail p.tail Equal refl) (sym (nat_cmp_is p.head p.head Equal refl))
-
 -- ---- a list in this order
 
 all_less : (p : Dart) (ps : List Dart) → AllByRecursion (λ y. dart_cmp p y ≡ Less) ps → (k : ℕ) → k < length ps → ComesBefore p (dart_at ps k)
@@ -64,27 +59,6 @@ eq_of Less h = absurd (false≢true h)
 eq_of Equal h = refl
 eq_of Greater h = absurd (false≢true h)
 
-pub is_itself : (p : Dart) → is_at (dart_cmp p) p ≡ true
-is_itself p = ap is_eq (dart_cmp-same p)
-
-pub at_same : (p q : Dart) → is_at (dart_cmp p) q ≡ true → p ≡ q
-at_same p q h = dart_cmp-equal p q (eq_of (dart_cmp p q) h)
-
-pub member_of : (q : Dart) (ps : List Dart) → list_any (is_at (dart_cmp q)) ps ≡ true → Contains ps q
-member_of q ps h = Contains-from_any {eq = λ x y. is_at (dart_cmp x) y} at_same q ps h
-
-either : (a b : Bool) → (a ≡ true) ⊎ (b ≡ true) → (a || b) ≡ true
-either true b h = refl
-either false b (inl h) = absurd (false≢true h)
-either false b (inr h) = h
-
 pub here_or_later : (p : Dart) (ps : List Dart) (q : Dart) (k : ℕ) → k < length (p ∷ ps) → get_or (p ∷ ps) k q ≡ q → (p ≡ q) ⊎ Contains ps q
 here_or_later p ps q zero l e = inl e
 here_or_later p ps q (suc k) l e = inr (k, omega (arith, l), e)
-
-pub of_member : (q : Dart) (ps : List Dart) → Contains ps q → list_any (is_at (dart_cmp q)) ps ≡ true
-of_member q [] h = let l = h.1 in absurd (omega arith)
-of_member q (p ∷ ps) h = elim (here_or_later p ps q h.0 h.1 h.2) [
-  | inl e ↦ either (is_at (dart_cmp q) p) (list_any (is_at (dart_cmp q)) ps) (inl (subst (λ x. is_at (dart_cmp q) x ≡ true) (sym e) (is_itself q)))
-  | inr m ↦ either (is_at (dart_cmp q) p) (list_any (is_at (dart_cmp q)) ps) (inr (of_member q ps m))
-]

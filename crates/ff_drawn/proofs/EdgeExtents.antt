@@ -17,7 +17,7 @@ use Rattle.ff_types.specs.FaceRefusals.{NoCrossing}
 use Rattle.ff_drawn.specs.contracts.extents.ExtentOrd.TheImpl as order
 use Rattle.ff_drawn.specs.declared.extents.Extent.{Extent}
 use Rattle.ff_drawn.specs.Beside.{AreBelow}
-use Rattle.ff_drawn.specs.Extents.{extent_at, IsAroundEdge, AreRound, AreEdgeExtents, AreInOrder, AreNotCrossing, CrossesNone, NoneCross, IsBeyond, Reaches, IsPart}
+use Rattle.ff_drawn.specs.Extents.{extent_at, IsAroundEdge, AreRound, AreEdgeExtents, AreInOrder, AreNotCrossing, CrossesNone, NoneCross}
 use Rattle.ff_drawn.proofs.EdgeCrossings.{apart_no_cross}
 
 last_or : (k n : ℕ) → k < n + 1 → (k < n) ⊎ (k ≡ n)

@@ -1,5 +1,5 @@
 -- Edges that leave a common vertex along different lines don't cross.
-use Rattle.std.proofs.Common.{◌≡◌, ◌⊎◌, inl, inr, ℕ, List, [], ◌∷◌, arith, refl, sym, ◌∙◌, subst, ℤ, pos, neg_ℤ, ◌<ℤ◌}
+use Rattle.std.proofs.Common.{◌≡◌, ◌⊎◌, inl, inr, List, [], ◌∷◌, arith, refl, sym, ◌∙◌, subst, ℤ, pos, neg_ℤ, ◌<ℤ◌}
 use Rattle.ff_whole.proofs.Ring.{var, num, ◌⊗◌, ◌⊕◌, ◌⊖◌, solve}
 use Rattle.ff_whole.proofs.Signs.{linear}
 use Rattle.ff_whole.proofs.Directions.{turn-first}

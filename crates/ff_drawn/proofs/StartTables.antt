@@ -3,7 +3,7 @@ use Rattle.std.proofs.Common.{◌≡◌, ◌⊎◌, inl, inr, ℕ, ◌+◌, ◌<
 use Rattle.std.proofs.lemmas.List.{get_or_append_left, get_or_push}
 use Rattle.ff_drawn.specs.declared.darts.Dart.{Dart}
 use Rattle.ff_drawn.specs.Darts.{dart_at, ComesBefore, AreInOrder, IsStart, ArePassed}
-use Rattle.ff_drawn.proofs.Starts.{before_trans, not_before_itself}
+use Rattle.ff_drawn.proofs.Starts.{before_trans}
 
 last_or : (k n : ℕ) → k < n + 1 → (k < n) ⊎ (k ≡ n)
 last_or k n l = grind arith

@@ -1,6 +1,5 @@
 -- Extents of vertices: in another order, one more, and that no two of them are at one point.
-use Rattle.std.proofs.Common.{◌≡◌, ◌⊎◌, inl, inr, ℕ, ◌+◌, ◌-◌, ◌<◌, ◌≤◌, List, [], ◌∷◌, ◌++◌, length, arith, sym, ap, ◌∙◌, subst, ℤ, ◌≤ℤ◌}
-use Rattle.std.proofs.lemmas.Int.{ints}
+use Rattle.std.proofs.Common.{◌≡◌, ◌⊎◌, inl, inr, ℕ, ◌+◌, ◌-◌, ◌<◌, List, [], ◌∷◌, ◌++◌, length, arith, sym, ap, ◌∙◌, subst}
 use Rattle.std.proofs.lemmas.List.{get_or_append_left, get_or_push, get_or_default}
 use Rattle.std.proofs.lemmas.List.Elements.{Contains-get_or}
 use Rattle.std.proofs.lemmas.List.Sorted.{Contains-permutation, IsPermutation-sym}
@@ -10,7 +9,7 @@ use Rattle.ff_whole.specs.Convex.{point_at}
 use Rattle.ff_whole.proofs.Signs.{linear}
 use Rattle.ff_types.specs.FaceRefusals.{SamePointAt, Never}
 use Rattle.ff_drawn.specs.declared.extents.Extent.{Extent}
-use Rattle.ff_drawn.specs.Extents.{extent_at, AreInOrder, IsVertexExtent, AreVertexExtents, AreSpots}
+use Rattle.ff_drawn.specs.Extents.{extent_at, IsVertexExtent, AreVertexExtents, AreSpots}
 
 last_or : (k n : ℕ) → k < n + 1 → (k < n) ⊎ (k ≡ n)
 last_or k n l = grind arith

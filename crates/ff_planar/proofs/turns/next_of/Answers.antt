@@ -1,7 +1,7 @@
-use Rattle.std.proofs.Common.{arith, sym, ◌∙◌, ◌<◌, length, slice_index, ◌+◌}
+use Rattle.std.proofs.Common.{arith, sym, ◌∙◌, length}
 use Rattle.std.proofs.lemmas.Bool.{false≢true}
 use Rattle.ff_drawn.specs.Darts.{dart_at}
-use Rattle.ff_planar.proofs.NextDarts.{AreLeaving, leaving_at, ends_there, first_is_last, keep_more, take_more, next_from, two_leave}
+use Rattle.ff_planar.proofs.NextDarts.{leaving_at, ends_there, first_is_last, keep_more, take_more, next_from, two_leave}
 use Rattle.ff_planar.proofs.turns.next_of.Goals as goal
 use Rattle.ff_planar.proofs.turns.next_of.Goals.{then-is_in_turn, else-is_in_turn}
 
