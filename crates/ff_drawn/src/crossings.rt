@@ -252,6 +252,14 @@ fn upper_part(
     Ok(part)
 }
 
+// A box of the sheet, and how often it may be halved.
+#[derive(Clone, Copy)]
+struct Window {
+    low: Pt,
+    high: Pt,
+    halvings: u32,
+}
+
 // The point with the first's x and the second's y, or the other way round.
 fn mixed(p: Pt, q: Pt, is_first: bool) -> Pt
     requires p_near { IsNear p }
@@ -264,58 +272,76 @@ fn mixed(p: Pt, q: Pt, is_first: bool) -> Pt
     Pt { x: q.x, y: p.y }
 }
 
-// Whether any two of the edges with these extents cross, which are within the box from `low` to `high`.
+// The half of the box up to the line.
+fn lower_half(window: Window, at: Pt, is_upright: bool) -> Window
+    requires low { IsNear window.low }
+    requires high { IsNear window.high }
+    requires at { IsNear at }
+    requires some { 0 < window.halvings }
+    ensures low { IsNear result.low }
+    ensures high { IsNear result.high }
+    ensures fewer { result.halvings < window.halvings }
+{
+    Window {
+        low: window.low,
+        high: mixed(at, window.high, is_upright),
+        halvings: window.halvings - 1,
+    }
+}
+
+// The half beyond it.
+fn upper_half(window: Window, at: Pt, is_upright: bool) -> Window
+    requires low { IsNear window.low }
+    requires high { IsNear window.high }
+    requires at { IsNear at }
+    requires some { 0 < window.halvings }
+    ensures low { IsNear result.low }
+    ensures high { IsNear result.high }
+    ensures fewer { result.halvings < window.halvings }
+{
+    Window {
+        low: mixed(at, window.low, is_upright),
+        high: window.high,
+        halvings: window.halvings - 1,
+    }
+}
+
+// Whether any two of the edges with these extents cross, which are within the box.
 fn any_within(
     alloc: Global,
     points: &[Pt],
     edges: &[EdgeEnds],
     list: &mut [Extent],
-    low: Pt,
-    high: Pt,
-    halvings: u32,
+    window: Window,
 ) -> Result<bool, NoMemory>
     requires graph { IsGraph points.now edges.now }
     requires apart { AreApart points.now }
     requires extents { AreRound points.now edges.now list.old }
-    requires low { IsNear low }
-    requires high { IsNear high }
+    requires low { IsNear window.low }
+    requires high { IsNear window.high }
     ensures { IfOk result (λ any. any ≡ false → NoneCross points.now edges.now list.old) }
 {
     if list.len() <= FEW {
         return Ok(any_pair(points, edges, list));
     }
-    if halvings == 0 {
+    if window.halvings == 0 {
         return Ok(any_among(points, edges, list));
     }
-    let at = middle_of(low, high);
-    let is_upright = is_wide(low, high);
+    let at = middle_of(window.low, window.high);
+    let is_upright = is_wide(window.low, window.high);
     let mut lower = lower_part(alloc, points, edges, list, at, is_upright)?;
     let mut upper = upper_part(alloc, points, edges, list, at, is_upright)?;
     if lower.len() + upper.len() > list.len() + list.len() / 4 {
         return Ok(any_among(points, edges, list));
     }
-    let end = mixed(at, high, is_upright);
-    if any_within(
-        alloc,
-        points,
-        edges,
-        lower.as_mut_slice(),
-        low,
-        end,
-        halvings - 1,
-    )? {
+    let (first, last) = (
+        lower_half(window, at, is_upright),
+        upper_half(window, at, is_upright),
+    );
+    if any_within(alloc, points, edges, lower.as_mut_slice(), first)? {
         return Ok(true);
     }
-    let start = mixed(at, low, is_upright);
-    any_within(
-        alloc,
-        points,
-        edges,
-        upper.as_mut_slice(),
-        start,
-        high,
-        halvings - 1,
-    )
+    any_within(alloc, points, edges, upper.as_mut_slice(), last)
 }
 
 // A point of the box round the points: the one with the least x and y.
@@ -356,14 +382,10 @@ pub fn any_crossing(alloc: Global, points: &[Pt], edges: &[EdgeEnds]) -> Result<
     ensures { IfOk result (λ any. any ≡ false → NoCrossing points.now edges.now) }
 {
     let mut list = edge_extents(alloc, points, edges)?;
-    let (low, high) = (low_end(points), high_end(points));
-    any_within(
-        alloc,
-        points,
-        edges,
-        list.as_mut_slice(),
-        low,
-        high,
-        HALVINGS,
-    )
+    let whole = Window {
+        low: low_end(points),
+        high: high_end(points),
+        halvings: HALVINGS,
+    };
+    any_within(alloc, points, edges, list.as_mut_slice(), whole)
 }

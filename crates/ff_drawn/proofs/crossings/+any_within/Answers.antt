@@ -7,38 +7,22 @@ use Rattle.ff_drawn.proofs.crossings.+any_within.Goals as goal
 pub any_within-requires : goal.any_within-requires
 any_within-requires t c =
     let r = c.requires in
-    let less = c.if-halvings-eq0.false in (
-      omega (arith, less, c.decreases),
-      (
-        r.graph,
-        (
-          r.apart,
-          (
-            subst (AreRound c.args.points.now c.args.edges.now) (sym c.as_mut_slice.ensures.value)
-                (round_part c.args.points.now c.args.edges.now (λ e. IsBeyond c.is_wide-is_upright.result c.middle_of-at.result e → ⊥) c.args.list.now c.in_ok-lower.lower.items r.extents c.in_ok-lower.ensures),
-            (r.low, c.mixed-end.ensures),
-          ),
-        ),
-      ),
-    )
+    let half = c.lower_half-first.ensures in
+    let points = c.args.points.now in
+    let edges = c.args.edges.now in
+    let part = round_part points edges (λ e. IsBeyond c.is_wide-is_upright.result c.middle_of-at.result e → ⊥) c.args.list.now c.in_ok-lower.lower.items r.extents c.in_ok-lower.ensures in
+    let round = subst (AreRound points edges) (sym c.as_mut_slice.ensures.value) part in
+    (omega (arith, half.fewer, c.decreases), (r.graph, (r.apart, (round, (half.low, half.high)))))
 
 pub any_within-requires-2 : goal.any_within-requires-2
 any_within-requires-2 t c =
     let r = c.requires in
-    let less = c.if-halvings-eq0.false in (
-      omega (arith, less, c.decreases),
-      (
-        r.graph,
-        (
-          r.apart,
-          (
-            subst (AreRound c.args.points.now c.args.edges.now) (sym c.as_mut_slice-2.ensures.value)
-                (round_part c.args.points.now c.args.edges.now (Reaches c.is_wide-is_upright.result c.middle_of-at.result) c.args.list.now c.in_ok-upper.upper.items r.extents c.in_ok-upper.ensures),
-            (c.mixed-start.ensures, r.high),
-          ),
-        ),
-      ),
-    )
+    let half = c.upper_half-last.ensures in
+    let points = c.args.points.now in
+    let edges = c.args.edges.now in
+    let part = round_part points edges (Reaches c.is_wide-is_upright.result c.middle_of-at.result) c.args.list.now c.in_ok-upper.upper.items r.extents c.in_ok-upper.ensures in
+    let round = subst (AreRound points edges) (sym c.as_mut_slice-2.ensures.value) part in
+    (omega (arith, half.fewer, c.decreases), (r.graph, (r.apart, (round, (half.low, half.high)))))
 
 pub returns : goal.returns
 returns t c =
