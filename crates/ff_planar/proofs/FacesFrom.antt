@@ -15,10 +15,10 @@ use Rattle.ff_types.specs.Faces.{ring_at, mark_at, list_before, Belongs, AreChai
 use Rattle.ff_types.specs.Sides.{sides_at}
 use Rattle.ff_types.specs.Walks.{IsWalk, IsOuterSide}
 use Rattle.ff_types.specs.FaceRefusals.{RimAt, PinchAt, ReflexAt, EnclosedAt, Never}
-use Rattle.ff_planar.specs.declared.darts.Dart.{Dart}
+use Rattle.ff_drawn.specs.declared.darts.Dart.{Dart}
 use Rattle.ff_planar.specs.declared.traces.Side.{Side}
 use Rattle.ff_planar.specs.declared.traces.Side.TheVariants.{Unmet, Outside, Face}
-use Rattle.ff_planar.specs.Drawn.{IsDrawnBy}
+use Rattle.ff_drawn.specs.Drawn.{IsDrawnBy}
 use Rattle.ff_planar.specs.Traces.{side_at, IsSideOf, AreTraced}
 use Rattle.ff_planar.specs.Seen.{IsSeenOf, AreAllSeen, IsUnfit, given_mark}
 use Rattle.ff_planar.proofs.Neighbours.{there}

@@ -10,10 +10,10 @@ use Rattle.ff_types.specs.Rings.{corner, after, Goes, IsRing}
 use Rattle.ff_types.specs.Faces.{ring_at, mark_at, Belongs, FitsMark, FitMarks, AreRings}
 use Rattle.ff_types.specs.Walks.{IsWalk, IsOuterSide, AreRingWalks}
 use Rattle.ff_types.specs.FaceRefusals.{BothOut, NoneOut, OneOut, MarkOut, RimAt, ApartAt}
-use Rattle.ff_planar.specs.declared.darts.Dart.{Dart}
+use Rattle.ff_drawn.specs.declared.darts.Dart.{Dart}
 use Rattle.ff_planar.specs.declared.traces.Side.{Side}
 use Rattle.ff_planar.specs.declared.traces.Side.TheVariants.{Unmet, Outside, Face}
-use Rattle.ff_planar.specs.Drawn.{IsDrawnBy}
+use Rattle.ff_drawn.specs.Drawn.{IsDrawnBy}
 use Rattle.ff_planar.specs.Traces.{side_at, IsSideOf, AreTraced}
 use Rattle.ff_planar.proofs.Neighbours.{joined_back}
 use Rattle.ff_planar.proofs.SameWalks.{one_walk, walks_alike, walk_once}

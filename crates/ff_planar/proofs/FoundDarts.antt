@@ -8,13 +8,13 @@ use Rattle.ff_types.specs.Patterns.{edge_at}
 use Rattle.ff_types.specs.Drawings.{joined}
 use Rattle.ff_types.specs.Sides.{sides_at}
 use Rattle.ff_types.proofs.PlainSheets.{joined_at, joins_itself}
-use Rattle.ff_planar.specs.declared.darts.Dart.{Dart}
+use Rattle.ff_drawn.specs.declared.darts.Dart.{Dart}
 use Rattle.ff_planar.specs.declared.traces.Side.{Side}
-use Rattle.ff_planar.specs.Drawn.{IsDrawnBy}
-use Rattle.ff_planar.specs.Darts.{dart_at, ComesBefore, AreDarts, IsStart}
+use Rattle.ff_drawn.specs.Drawn.{IsDrawnBy}
+use Rattle.ff_drawn.specs.Darts.{dart_at, ComesBefore, AreDarts, IsStart}
 use Rattle.ff_planar.specs.Traces.{side_at, IsSideOf, AreTraced}
 use Rattle.ff_planar.specs.Seen.{AreSeen}
-use Rattle.ff_planar.proofs.Starts.{not_before_itself}
+use Rattle.ff_drawn.proofs.Starts.{not_before_itself}
 
 -- it stands where the search ends
 pub found : (edges : List EdgeEnds) (darts : List Dart) (u v s : ℕ) → AreDarts edges darts → IsTrue (joined edges u v) → IsStart darts (record { tail = u; head = v }) s

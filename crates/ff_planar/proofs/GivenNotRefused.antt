@@ -9,17 +9,17 @@ use Rattle.ff_types.specs.declared.refusals.Refusal.TheVariants.{SamePoint, Cros
 use Rattle.ff_types.specs.declared.refusals.What.TheVariants as what
 use Rattle.ff_types.specs.Faces.{AreRings}
 use Rattle.ff_types.specs.FaceRefusals.{RimAt, RefusesFaces}
-use Rattle.ff_planar.specs.declared.darts.Dart.{Dart}
+use Rattle.ff_drawn.specs.declared.darts.Dart.{Dart}
 use Rattle.ff_planar.specs.declared.traces.Side.{Side}
-use Rattle.ff_planar.specs.Graphs.{IsGraph}
-use Rattle.ff_planar.specs.Darts.{AreDarts}
-use Rattle.ff_planar.specs.Drawn.{IsDrawnBy}
+use Rattle.ff_drawn.specs.Graphs.{IsGraph}
+use Rattle.ff_drawn.specs.Darts.{AreDarts}
+use Rattle.ff_drawn.specs.Drawn.{IsDrawnBy}
 use Rattle.ff_planar.specs.Traces.{AreTraced}
 use Rattle.ff_planar.specs.Given.{AreGiven}
-use Rattle.ff_planar.proofs.WholeDrawings.{same_is_none, cross_is_none, loose_is_none}
+use Rattle.ff_drawn.proofs.WholeDrawings.{same_is_none, cross_is_none, loose_is_none}
 use Rattle.ff_planar.proofs.FacesWalks.{no_pinch, no_reflex, no_enclosed}
 use Rattle.ff_planar.proofs.FacesOnce.{no_rim, no_apart, one_walks, faces_once}
-use Rattle.ff_planar.proofs.DartLists.{some_darts}
+use Rattle.ff_drawn.proofs.DartLists.{some_darts}
 use Rattle.ff_planar.proofs.SomeTraces.{some_trace}
 
 module _ (points : List Pt) (edges : List EdgeEnds) (marks : Option (List Mark)) (graph : IsGraph points edges) (faces : Faces) (g : AreGiven points edges marks faces) where

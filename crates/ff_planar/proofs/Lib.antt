@@ -1,14 +1,4 @@
-pub mod EdgeCrossings
-pub mod EdgeExtents
 pub mod Boxes
-pub mod Eithers
-pub mod SamePoints
-pub mod BoxTests
-pub mod DartOrder
-pub mod SeenDarts
-pub mod Starts
-pub mod TwoDarts
-pub mod WholeDrawings
 pub mod Neighbours
 pub mod NextDarts
 pub mod CyclicSums
@@ -40,7 +30,6 @@ pub mod LinkedFaces
 pub mod NoFaces
 pub mod GivenFaces
 pub mod Stages
-pub mod DartLists
 pub mod SomeTraces
 pub mod SomeFaces
 pub mod GivenNotRefused

@@ -20,8 +20,8 @@ use Rattle.ff_types.specs.Walks.{in_turn, direction, GoesOn}
 use Rattle.ff_types.proofs.Computing.{both, either}
 use Rattle.ff_types.proofs.ComputedFaces.{joins_is}
 use Rattle.ff_types.proofs.PlainSheets.{some_joins, joined_at}
-use Rattle.ff_planar.proofs.EdgeCrossings.{end_not_within}
-use Rattle.ff_planar.proofs.TwoDarts.{joins_back}
+use Rattle.ff_drawn.proofs.EdgeCrossings.{end_not_within}
+use Rattle.ff_drawn.proofs.TwoDarts.{joins_back}
 
 -- ---- the test of three directions
 

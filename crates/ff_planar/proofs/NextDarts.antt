@@ -1,24 +1,27 @@
 -- Of the darts that leave a vertex, the last one counterclockwise from the way back.
-use Rattle.std.proofs.Common.{◌≡◌, ◌≢◌, ◌⊎◌, inl, inr, ℕ, ◌+◌, ◌<◌, ◌≤◌, IsTrue, List, length, pos, ◌<ℤ◌, arith, sym, ap, ◌∙◌, subst}
+use Rattle.std.proofs.Common.{◌≡◌, ◌≢◌, ◌⊎◌, inl, inr, ℕ, ◌+◌, ◌<◌, ◌≤◌, IsTrue, List, length, slice_index, pos, ◌<ℤ◌, arith, sym, ap, ◌∙◌, subst}
 use Rattle.ff_whole.specs.declared.points.Pt.{Pt}
 use Rattle.ff_whole.specs.Points.{dot}
 use Rattle.ff_whole.proofs.CyclicOrder.{IsTurned, AreDifferent, either_way, turned_on}
 use Rattle.ff_types.specs.declared.patterns.EdgeEnds.{EdgeEnds}
 use Rattle.ff_types.specs.Drawings.{joined}
 use Rattle.ff_types.specs.Walks.{in_turn, direction, GoesOn}
-use Rattle.ff_planar.specs.Graphs.{IsGraph}
-use Rattle.ff_planar.specs.Drawn.{IsDrawnBy}
+use Rattle.ff_drawn.specs.Graphs.{IsGraph}
+use Rattle.ff_drawn.specs.Drawn.{IsDrawnBy}
 use Rattle.ff_planar.specs.Turns.{IsNext, IsFirstOther}
-use Rattle.ff_planar.specs.declared.darts.Dart.{Dart}
-use Rattle.ff_planar.specs.Darts.{dart_at, ComesBefore, IsStart}
-use Rattle.ff_planar.proofs.Starts.{not_before_itself}
-use Rattle.ff_planar.proofs.TwoDarts.{not_before_first, darts_from_two, place_of}
+use Rattle.ff_drawn.specs.declared.darts.Dart.{Dart}
+use Rattle.ff_drawn.specs.Darts.{dart_at, ComesBefore, IsStart, AreStarts}
+use Rattle.ff_drawn.proofs.Starts.{not_before_itself}
+use Rattle.ff_drawn.proofs.TwoDarts.{not_before_first, darts_from_two, place_of}
 use Rattle.ff_planar.proofs.Neighbours.{joined_back, there, direction_long, directions_differ, from_turned}
 
 -- the darts start, .., end - 1 leave v
 pub record AreLeaving (darts : List Dart) (v start end : ℕ) : Type 0 where
   pub first : IsStart darts (record { tail = v; head = 0 }) start
   pub last : IsStart darts (record { tail = v + 1; head = 0 }) end
+
+pub leaving_at : (darts : List Dart) (n : ℕ) (starts : List ℕ) (v : ℕ) → AreStarts darts n starts → v < n → AreLeaving darts v (slice_index starts v) (slice_index starts (v + 1))
+leaving_at darts n starts v s l = record { first = s.each v (omega (arith, l)); last = s.each (v + 1) (omega (arith, l)) }
 
 -- of the darts of v before c that don't lead back to u, last is the last one in turn
 pub record IsLast (points : List Pt) (darts : List Dart) (u v start end c last : ℕ) : Type 0 where

@@ -4,12 +4,12 @@ use Rattle.std.proofs.lemmas.List.{get_or_append_left, get_or_push}
 use Rattle.ff_whole.specs.declared.points.Pt.{Pt}
 use Rattle.ff_types.specs.declared.patterns.EdgeEnds.{EdgeEnds}
 use Rattle.ff_types.specs.Walks.{GoesOn}
-use Rattle.ff_planar.specs.declared.darts.Dart.{Dart}
-use Rattle.ff_planar.specs.Drawn.{IsDrawnBy}
-use Rattle.ff_planar.specs.Darts.{dart_at, ComesBefore, AreInOrder}
+use Rattle.ff_drawn.specs.declared.darts.Dart.{Dart}
+use Rattle.ff_drawn.specs.Drawn.{IsDrawnBy}
+use Rattle.ff_drawn.specs.Darts.{dart_at, ComesBefore, AreInOrder}
 use Rattle.ff_planar.specs.Turns.{IsNext}
 use Rattle.ff_planar.specs.Orbits.{AreNexts, IsOneToOne}
-use Rattle.ff_planar.proofs.Starts.{not_before_itself}
+use Rattle.ff_drawn.proofs.Starts.{not_before_itself}
 use Rattle.ff_planar.proofs.Neighbours.{in_once}
 
 last_or : (k c : ℕ) → k < c + 1 → (k < c) ⊎ (k ≡ c)

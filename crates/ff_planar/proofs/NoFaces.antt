@@ -7,14 +7,14 @@ use Rattle.ff_types.specs.declared.faces.EdgeSides.{EdgeSides}
 use Rattle.ff_types.specs.Drawings.{IsDrawing}
 use Rattle.ff_types.specs.Sides.{sides_at}
 use Rattle.ff_types.specs.FaceRefusals.{IsDrawn, RimAt, Never}
-use Rattle.ff_planar.specs.declared.darts.Dart.{Dart}
+use Rattle.ff_drawn.specs.declared.darts.Dart.{Dart}
 use Rattle.ff_planar.specs.declared.traces.Side.{Side}
-use Rattle.ff_planar.specs.Drawn.{IsDrawnBy}
+use Rattle.ff_drawn.specs.Drawn.{IsDrawnBy}
 use Rattle.ff_planar.specs.Traces.{AreTraced}
 use Rattle.ff_planar.specs.Seen.{AreAllSeen, IsSeenOf, IsUnfit, given_mark}
 use Rattle.ff_planar.specs.Given.{HasNoFaces}
 use Rattle.ff_planar.specs.Joining.{AreBelow}
-use Rattle.ff_planar.proofs.WholeDrawings.{same_is_none, cross_is_none, loose_is_none}
+use Rattle.ff_drawn.proofs.WholeDrawings.{same_is_none, cross_is_none, loose_is_none}
 use Rattle.ff_planar.proofs.Rims.{rim_from}
 use Rattle.ff_planar.proofs.FacesOnce.{no_rim, one_walks}
 

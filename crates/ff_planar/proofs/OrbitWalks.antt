@@ -7,9 +7,9 @@ use Rattle.ff_whole.specs.Convex.{next}
 use Rattle.ff_types.specs.declared.patterns.EdgeEnds.{EdgeEnds}
 use Rattle.ff_types.specs.Rings.{corner, after, Goes}
 use Rattle.ff_types.specs.Walks.{GoesOn, IsWalk}
-use Rattle.ff_planar.specs.declared.darts.Dart.{Dart}
-use Rattle.ff_planar.specs.Drawn.{IsDrawnBy}
-use Rattle.ff_planar.specs.Darts.{dart_at}
+use Rattle.ff_drawn.specs.declared.darts.Dart.{Dart}
+use Rattle.ff_drawn.specs.Drawn.{IsDrawnBy}
+use Rattle.ff_drawn.specs.Darts.{dart_at}
 use Rattle.ff_planar.specs.Orbits.{AreNexts, IsOrbit, tails}
 use Rattle.ff_planar.proofs.NextTables.{one_place}
 

@@ -8,16 +8,16 @@ use Rattle.ff_types.specs.Rings.{corner, Goes}
 use Rattle.ff_types.specs.Faces.{ring_at}
 use Rattle.ff_types.specs.Walks.{IsOuterSide, AreRingWalks}
 use Rattle.ff_types.specs.FaceRefusals.{PinchAt}
-use Rattle.ff_planar.specs.declared.darts.Dart.{Dart}
+use Rattle.ff_drawn.specs.declared.darts.Dart.{Dart}
 use Rattle.ff_planar.specs.declared.traces.Side.{Side}
 use Rattle.ff_planar.specs.declared.traces.Side.TheVariants.{Unmet, Outside, Face}
-use Rattle.ff_planar.specs.Drawn.{IsDrawnBy}
-use Rattle.ff_planar.specs.Darts.{dart_at, ComesBefore, AreInOrder}
+use Rattle.ff_drawn.specs.Drawn.{IsDrawnBy}
+use Rattle.ff_drawn.specs.Darts.{dart_at, ComesBefore, AreInOrder}
 use Rattle.ff_planar.specs.Traces.{side_at, IsSideOf, AreTraced}
 use Rattle.ff_planar.specs.Outlines.{IsOut, TwoOut}
 use Rattle.ff_planar.proofs.NextDarts.{ends_there}
-use Rattle.ff_planar.proofs.Starts.{not_before_itself}
-use Rattle.ff_planar.proofs.TwoDarts.{tails_rise}
+use Rattle.ff_drawn.proofs.Starts.{not_before_itself}
+use Rattle.ff_drawn.proofs.TwoDarts.{tails_rise}
 use Rattle.ff_planar.proofs.SameWalks.{one_area}
 
 -- a ring has no outer side

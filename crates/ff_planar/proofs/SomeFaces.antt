@@ -15,22 +15,22 @@ use Rattle.ff_types.specs.Drawings.{HasTwoEdges, IsDrawing, joined}
 use Rattle.ff_types.specs.Faces.{mark_at, AreChained}
 use Rattle.ff_types.specs.Sides.{sides_at, filled, IsMarkOf}
 use Rattle.ff_types.specs.FaceRefusals.{SamePointAt, RimAt, PinchAt, ReflexAt, EnclosedAt, Never, NoCrossing, IsDrawn, IsClear, RefusesFaces}
-use Rattle.ff_planar.specs.declared.darts.Dart.{Dart}
+use Rattle.ff_drawn.specs.declared.darts.Dart.{Dart}
 use Rattle.ff_planar.specs.declared.traces.Side.{Side}
 use Rattle.ff_planar.specs.declared.traces.Side.TheVariants.{Unmet, Outside, Face}
-use Rattle.ff_planar.specs.Graphs.{IsGraph}
-use Rattle.ff_planar.specs.Drawn.{IsDrawnBy}
-use Rattle.ff_planar.specs.Darts.{AreDarts}
+use Rattle.ff_drawn.specs.Graphs.{IsGraph}
+use Rattle.ff_drawn.specs.Drawn.{IsDrawnBy}
+use Rattle.ff_drawn.specs.Darts.{AreDarts}
 use Rattle.ff_planar.specs.Traces.{side_at, IsSideOf, AreTraced}
 use Rattle.ff_planar.specs.Seen.{IsSeenOf, AreSeen, AreAllSeen}
 use Rattle.ff_planar.specs.Given.{AreGiven, IsFound, AreFilled}
 use Rattle.ff_planar.proofs.Neighbours.{joined_back}
 use Rattle.ff_planar.proofs.FoundDarts.{along_edge}
-use Rattle.ff_planar.proofs.WholeDrawings.{drawing_from}
+use Rattle.ff_drawn.proofs.WholeDrawings.{drawing_from}
 use Rattle.ff_planar.proofs.FacesFrom.{rings_from}
 use Rattle.ff_planar.proofs.GivenFaces.{faces_from}
 use Rattle.ff_planar.proofs.Stages.{Reason, IsPast, past_none, past_more, IsFirstReason, refusal, graph_of}
-use Rattle.ff_planar.proofs.DartLists.{some_darts}
+use Rattle.ff_drawn.proofs.DartLists.{some_darts}
 use Rattle.ff_planar.proofs.SomeTraces.{choose, some_trace}
 
 last_or : (k n : ℕ) → k < suc n → (k < n) ⊎ (k ≡ n)

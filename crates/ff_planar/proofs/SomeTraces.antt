@@ -9,12 +9,12 @@ use Rattle.ff_whole.proofs.CyclicOrder.{IsTurned}
 use Rattle.ff_types.specs.declared.patterns.EdgeEnds.{EdgeEnds}
 use Rattle.ff_types.specs.Areas.{area}
 use Rattle.ff_types.specs.Walks.{in_turn, direction}
-use Rattle.ff_planar.specs.Graphs.{IsGraph}
-use Rattle.ff_planar.specs.Drawn.{IsDrawnBy}
-use Rattle.ff_planar.specs.declared.darts.Dart.{Dart}
+use Rattle.ff_drawn.specs.Graphs.{IsGraph}
+use Rattle.ff_drawn.specs.Drawn.{IsDrawnBy}
+use Rattle.ff_drawn.specs.declared.darts.Dart.{Dart}
 use Rattle.ff_planar.specs.declared.traces.Side.{Side}
 use Rattle.ff_planar.specs.declared.traces.Side.TheVariants.{Unmet, Outside, Face}
-use Rattle.ff_planar.specs.Darts.{dart_at}
+use Rattle.ff_drawn.specs.Darts.{dart_at}
 use Rattle.ff_planar.specs.Turns.{IsNext, IsFirstOther}
 use Rattle.ff_planar.specs.Orbits.{AreNexts, IsOneToOne, IsOrbit, tails}
 use Rattle.ff_planar.specs.Traces.{side_at, AreTraced, Fills}
@@ -26,7 +26,7 @@ use Rattle.ff_planar.proofs.OrbitWalks.{dart_below}
 use Rattle.ff_planar.proofs.FilledSides.{FillsTo, fill_none, fill_more, fill_all}
 use Rattle.ff_planar.proofs.TracedWalks.{IsTraced, unmet_or, trace_none, trace_skip, trace_outer, trace_ring, all_traced}
 use Rattle.ff_planar.proofs.TraceSteps.{none_known}
-use Rattle.ff_planar.proofs.DartLists.{some_start}
+use Rattle.ff_drawn.proofs.DartLists.{some_start}
 
 same_or : (w z : ℕ) → (w ≢ z) ⊎ (w ≡ z)
 same_or w z = elim (which w z) [ inl l ↦ inl (λ e. omega (arith, l, e)) | inr o ↦ elim o [ inl l ↦ inl (λ e. omega (arith, l, e)) | inr e ↦ inr e ] ] where

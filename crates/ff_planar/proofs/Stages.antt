@@ -8,7 +8,7 @@ use Rattle.ff_types.specs.declared.refusals.Refusal.TheVariants.{SamePoint, Cros
 use Rattle.ff_types.specs.declared.refusals.What.TheVariants as what
 use Rattle.ff_types.specs.Patterns.{IsPattern}
 use Rattle.ff_types.specs.FaceRefusals.{SamePointAt, CrossingAt, LooseAt, RimAt, PinchAt, ReflexAt, EnclosedAt, ApartAt, TooManyFaces, IsLeast, Never, NoCrossing, IsDrawn, IsClear, RefusesFaces}
-use Rattle.ff_planar.specs.Graphs.{IsGraph}
+use Rattle.ff_drawn.specs.Graphs.{IsGraph}
 
 which : (i j : ℕ) → (i < j) ⊎ ((j < i) ⊎ (i ≡ j))
 which i j = grind arith

@@ -9,11 +9,11 @@ use Rattle.ff_whole.specs.declared.points.Pt.{Pt}
 use Rattle.ff_whole.specs.Points.{IsNear, origin}
 use Rattle.ff_types.specs.declared.patterns.EdgeEnds.{EdgeEnds}
 use Rattle.ff_types.specs.Areas.{area}
-use Rattle.ff_planar.specs.declared.darts.Dart.{Dart}
+use Rattle.ff_drawn.specs.declared.darts.Dart.{Dart}
 use Rattle.ff_planar.specs.declared.traces.Side.{Side}
 use Rattle.ff_planar.specs.declared.traces.Side.TheVariants.{Unmet}
-use Rattle.ff_planar.specs.Graphs.{IsGraph}
-use Rattle.ff_planar.specs.Drawn.{IsDrawnBy}
+use Rattle.ff_drawn.specs.Graphs.{IsGraph}
+use Rattle.ff_drawn.specs.Drawn.{IsDrawnBy}
 use Rattle.ff_planar.specs.Orbits.{AreNexts, IsOrbit, tails}
 use Rattle.ff_planar.specs.Traces.{side_at, AddsWalk}
 use Rattle.ff_planar.proofs.NextDarts.{ends_there}

@@ -14,15 +14,15 @@ use Rattle.ff_types.specs.Areas.{area}
 use Rattle.ff_types.specs.Faces.{ring_at, list_before}
 use Rattle.ff_types.specs.Walks.{IsWalk, IsRingWalk}
 use Rattle.ff_types.proofs.CreaseFaces.{before_first, before_second}
-use Rattle.ff_planar.specs.declared.darts.Dart.{Dart}
+use Rattle.ff_drawn.specs.declared.darts.Dart.{Dart}
 use Rattle.ff_planar.specs.declared.traces.Side.{Side}
 use Rattle.ff_planar.specs.declared.traces.Side.TheVariants.{Unmet, Outside, Face}
-use Rattle.ff_planar.specs.Drawn.{IsDrawnBy}
-use Rattle.ff_planar.specs.Darts.{dart_at, ComesBefore}
+use Rattle.ff_drawn.specs.Drawn.{IsDrawnBy}
+use Rattle.ff_drawn.specs.Darts.{dart_at, ComesBefore}
 use Rattle.ff_planar.specs.Orbits.{AreNexts, IsOrbit, tails}
 use Rattle.ff_planar.specs.Traces.{side_at, IsSideOf, AreTraced, Fills}
 use Rattle.ff_planar.proofs.Neighbours.{there}
-use Rattle.ff_planar.proofs.TwoDarts.{tails_rise}
+use Rattle.ff_drawn.proofs.TwoDarts.{tails_rise}
 use Rattle.ff_planar.proofs.SameWalks.{one_area}
 use Rattle.ff_planar.proofs.OrbitWalks.{orbit_step, dart_below, head_at, tail_at, tails_length, orbit_walk, orbit_goes}
 

@@ -1,23 +1,13 @@
 -- How far vertices and rings reach, and that no vertex is inside a ring.
-use Rattle.std.specs.Prelude.{◌≡◌, ℕ, ◌<◌, ◌≤◌, ◌<ℤ◌, List, length}
+use Rattle.std.specs.Prelude.{◌≡◌, ℕ, ◌<◌, ◌≤◌, ◌≤ℤ◌, List, length}
 use Rattle.ff_whole.specs.declared.points.Pt.{Pt}
 use Rattle.ff_whole.specs.Points.{IsNear}
 use Rattle.ff_whole.specs.Convex.{point_at}
 use Rattle.ff_types.specs.Rings.{corner}
 use Rattle.ff_types.specs.Faces.{ring_at}
-use Rattle.ff_planar.specs.declared.extents.Extent.{Extent}
+use Rattle.ff_drawn.specs.declared.extents.Extent.{Extent}
 use Rattle.ff_planar.specs.Reflex.{IsInside}
-use Rattle.ff_planar.specs.Extents.{extent_at, IsAround}
-
--- the extent's low end is the vertex
-pub record IsVertexExtent (points : List Pt) (e : Extent) : Type 0 where
-  pub low_near : IsNear e.low
-  pub there : e.number < length points
-  pub low_is : e.low ≡ point_at points e.number
-
-pub record AreVertexExtents (points : List Pt) (list : List Extent) : Type 0 where
-  pub each : (i : ℕ) → i < length list → IsVertexExtent points (extent_at list i)
-  pub all : (v : ℕ) → v < length points → (i : ℕ) × (i < length list) × ((extent_at list i).number ≡ v)
+use Rattle.ff_drawn.specs.Extents.{extent_at, IsAround}
 
 -- the first n corners of a ring are within the extent
 pub record IsAroundCorners (points : List Pt) (ring : List ℕ) (n : ℕ) (e : Extent) : Type 0 where
@@ -37,9 +27,9 @@ pub record AreRingExtents (points : List Pt) (rings : List (List ℕ)) (list : L
 abbrev pub AreSome : List (List ℕ) → Type 0
 AreSome rings = (f : ℕ) → f < length rings → 0 < length (ring_at rings f)
 
--- the vertices at the places before n are west of the ring
+-- the vertices at the places before n aren't east of the ring's west end
 abbrev pub AreWest : List Extent → Extent → ℕ → Type 0
-AreWest spots frame n = (j : ℕ) → j < n → (extent_at spots j).low.x <ℤ frame.low.x
+AreWest spots frame n = (j : ℕ) → j < n → (extent_at spots j).low.x ≤ℤ frame.low.x
 
 -- the vertices at the places from start to n aren't inside the ring
 abbrev pub HoldsNone : List Pt → List ℕ → List Extent → ℕ → ℕ → Type 0

@@ -1,9 +1,3 @@
-pub mod Graphs
-pub mod Firsts
-pub mod Drawn
-pub mod Extents
-pub mod Beside
-pub mod Darts
 pub mod Turns
 pub mod Orbits
 pub mod Traces

@@ -2,8 +2,8 @@
 use Rattle.std.specs.Prelude.{◌≡◌, ℕ, ◌+◌, ◌-◌, ◌<◌, List, length, slice_index, map}
 use Rattle.ff_whole.specs.declared.points.Pt.{Pt}
 use Rattle.ff_types.specs.declared.patterns.EdgeEnds.{EdgeEnds}
-use Rattle.ff_planar.specs.declared.darts.Dart.{Dart}
-use Rattle.ff_planar.specs.Darts.{dart_at}
+use Rattle.ff_drawn.specs.declared.darts.Dart.{Dart}
+use Rattle.ff_drawn.specs.Darts.{dart_at}
 use Rattle.ff_planar.specs.Turns.{IsNext}
 
 -- for each dart the one along which a walk goes on

@@ -1,9 +1,9 @@
 -- Darts with the outside on their left.
 use Rattle.std.specs.Prelude.{◌≡◌, ℕ, ◌<◌, List, length}
-use Rattle.ff_planar.specs.declared.darts.Dart.{Dart}
+use Rattle.ff_drawn.specs.declared.darts.Dart.{Dart}
 use Rattle.ff_planar.specs.declared.traces.Side.{Side}
 use Rattle.ff_planar.specs.declared.traces.Side.TheVariants.{Outside}
-use Rattle.ff_planar.specs.Darts.{dart_at}
+use Rattle.ff_drawn.specs.Darts.{dart_at}
 use Rattle.ff_planar.specs.Traces.{side_at}
 
 -- it has the outside on its left and leaves v

@@ -3,8 +3,8 @@ use Rattle.std.specs.Prelude.{◌≡◌, ◌≢◌, ℕ, ◌+◌, ◌<◌, ◌�
 use Rattle.ff_whole.specs.declared.points.Pt.{Pt}
 use Rattle.ff_types.specs.declared.patterns.EdgeEnds.{EdgeEnds}
 use Rattle.ff_types.specs.Walks.{GoesOn}
-use Rattle.ff_planar.specs.declared.darts.Dart.{Dart}
-use Rattle.ff_planar.specs.Darts.{dart_at}
+use Rattle.ff_drawn.specs.declared.darts.Dart.{Dart}
+use Rattle.ff_drawn.specs.Darts.{dart_at}
 
 -- the walk along the dart d goes on along the dart c
 pub record IsNext (points : List Pt) (edges : List EdgeEnds) (darts : List Dart) (d c : ℕ) : Type 0 where

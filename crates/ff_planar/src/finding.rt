@@ -1,12 +1,12 @@
 //! The rings of a drawing's faces.
 ghost use Rattle.std.specs.Prelude.{◌≡◌, ◌<◌, List, Some, length, MatchResult};
-ghost use Rattle.ff_planar.specs.Graphs.{IsGraph};
+ghost use Rattle.ff_drawn.specs.Graphs.{IsGraph};
 ghost use Rattle.ff_planar.specs.Given.{IsFound, IsNotFound};
 
-use crate::drawings::drawn_darts;
 use crate::refusing::refuse;
 use crate::sides::sides_of;
 use crate::traces::trace_of;
+use ff_drawn::drawn_darts;
 use ff_tables::Items;
 use ff_types::{EdgeEnds, EdgeSides, Mark, No};
 use ff_whole::Pt;
@@ -31,18 +31,27 @@ pub fn find(
     requires marked { (ms : List Mark) → marks.now ≡ Some ms → length ms ≡ length edges.now }
     ensures { MatchResult result (λ found. IsFound points.now edges.now marks.now found.rings.items found.seen.items) (IsNotFound points.now edges.now marks.now) }
 {
-    let darts = drawn_darts(alloc, points, edges)?;
-    let traced = trace_of(alloc, points, edges, &darts)?;
-    let seen = sides_of(alloc, points, edges, &darts, &traced.rings, &traced.sides)?;
+    let drawn = drawn_darts(alloc, points, edges)?;
+    let traced = trace_of(alloc, points, edges, &drawn.darts, &drawn.starts)?;
+    let seen = sides_of(
+        alloc,
+        points,
+        edges,
+        &drawn.darts,
+        &drawn.starts,
+        &traced.rings,
+        &traced.sides,
+    )?;
     refuse(
         alloc,
         points,
         edges,
         marks,
-        &darts,
+        &drawn.darts,
         &traced.rings,
         &traced.sides,
         &seen,
+        &drawn.spots,
     )?;
     Ok(Found {
         rings: traced.rings,

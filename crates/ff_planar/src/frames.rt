@@ -5,42 +5,15 @@ ghost use Rattle.ff_whole.specs.Points.{IsNear};
 ghost use Rattle.ff_whole.specs.declared.points.Pt.{Pt as PtRow};
 ghost use Rattle.ff_types.specs.Rings.{corner};
 ghost use Rattle.ff_types.specs.Faces.{ring_at};
-ghost use Rattle.ff_planar.specs.Extents.{extent_at, IsAround, AreInOrder as AreFromWest};
+ghost use Rattle.ff_drawn.specs.Extents.{extent_at, IsAround, AreInOrder as AreFromWest, IsVertexExtent, AreVertexExtents, AreSpots};
 ghost use Rattle.ff_planar.specs.Reflex.{AreThere, IsInside};
-ghost use Rattle.ff_planar.specs.Frames.{IsVertexExtent, AreVertexExtents, IsAroundCorners, IsRingExtent, AreRingExtents, AreSome, AreWest, HoldsNone, AreHollow, NoneInside};
+ghost use Rattle.ff_planar.specs.Frames.{IsAroundCorners, IsRingExtent, AreRingExtents, AreSome, AreWest, HoldsNone, AreHollow, NoneInside};
 
-use crate::extents::{Extent, high_of, is_south_of, is_west_of, low_of, order};
 use crate::reflex::is_inside;
+use ff_drawn::{Extent, high_of, is_south_of, is_west_of, low_of, order};
 use ff_tables::{Items, NoMemory};
 use ff_whole::Pt;
 use std::alloc::Global;
-
-fn vertex_extent(points: &[Pt], v: usize) -> Extent
-    requires near { All IsNear points.now }
-    requires within { v < length points.now }
-    requires few { length points.now ≤ 4096 }
-    ensures vertex { IsVertexExtent points.now result }
-    ensures number { result.number ≡ v }
-{
-    Extent {
-        low: points[v],
-        high: points[v],
-        number: v as u32,
-    }
-}
-
-// The extents of all vertices.
-fn vertex_extents(alloc: Global, points: &[Pt]) -> Result<Vec<Extent>, NoMemory>
-    requires near { All IsNear points.now }
-    requires few { length points.now ≤ 4096 }
-    ensures { IfOk result (λ list. AreVertexExtents points.now list.items) }
-{
-    let mut list = Vec::new(alloc);
-    for v in 0..points.len() {
-        list.push(vertex_extent(points, v))?;
-    }
-    Ok(list)
-}
 
 // The extent with one point more.
 fn grown(e: Extent, p: Pt) -> Extent
@@ -101,7 +74,7 @@ fn ring_extents(alloc: Global, points: &[Pt], rings: &[Items<u32>]) -> Result<Ve
     Ok(list)
 }
 
-// The place of the first vertex that isn't west of the ring.
+// The place of the first vertex that is east of the ring's west end.
 fn first_from(points: &[Pt], spots: &[Extent], frame: Extent, start: usize) -> usize
     requires spots { AreVertexExtents points.now spots.now }
     requires near { IsNear frame.low }
@@ -113,7 +86,7 @@ fn first_from(points: &[Pt], spots: &[Extent], frame: Extent, start: usize) -> u
     let _ = points.len();
     let mut place = start;
     while place < spots.len() {
-        if !is_west_of(spots[place].low, frame.low) {
+        if is_west_of(frame.low, spots[place].low) {
             return place;
         }
         place += 1;
@@ -150,7 +123,7 @@ fn holds_any(points: &[Pt], ring: &[u32], spots: &[Extent], frame: Extent, start
     ensures { result ≡ false → HoldsNone points.now ring.now spots.now start (length spots.now) }
 {
     for j in start..spots.len() {
-        if is_west_of(frame.high, spots[j].low) {
+        if !is_west_of(spots[j].low, frame.high) {
             return false;
         }
         if holds(points, ring, frame, spots[j]) {
@@ -183,35 +156,33 @@ fn any_held(points: &[Pt], rings: &[Items<u32>], spots: &[Extent], frames: &[Ext
     false
 }
 
-// The same for extents in any order, which are put in order.
-fn any_among(
-    points: &[Pt],
-    rings: &[Items<u32>],
-    spots: &mut [Extent],
-    frames: &mut [Extent],
-) -> bool
+// The same for rings' extents in any order, which are put in order.
+fn any_among(points: &[Pt], rings: &[Items<u32>], spots: &[Extent], frames: &mut [Extent]) -> bool
     requires near { All IsNear points.now }
     requires there { AreThere points.now rings.now }
     requires some { AreSome rings.now }
-    requires spots { AreVertexExtents points.now spots.old }
+    requires spots { AreSpots points.now spots.now }
     requires frames { AreRingExtents points.now rings.now frames.old }
     ensures { result ≡ false → NoneInside points.now rings.now }
 {
-    order(spots);
     order(frames);
     any_held(points, rings, spots, frames)
 }
 
 /// Whether any vertex is inside a ring: where it is false, none is.
-pub fn any_enclosed(alloc: Global, points: &[Pt], rings: &[Items<u32>]) -> Result<bool, NoMemory>
+pub fn any_enclosed(
+    alloc: Global,
+    points: &[Pt],
+    rings: &[Items<u32>],
+    spots: &[Extent],
+) -> Result<bool, NoMemory>
     requires near { All IsNear points.now }
     requires there { AreThere points.now rings.now }
     requires some { AreSome rings.now }
-    requires few { length points.now ≤ 4096 }
+    requires spots { AreSpots points.now spots.now }
     requires few_rings { length rings.now ≤ 32768 }
     ensures { IfOk result (λ any. any ≡ false → NoneInside points.now rings.now) }
 {
-    let mut spots = vertex_extents(alloc, points)?;
     let mut frames = ring_extents(alloc, points, rings)?;
-    Ok(any_among(points, rings, spots.as_mut_slice(), frames.as_mut_slice()))
+    Ok(any_among(points, rings, spots, frames.as_mut_slice()))
 }

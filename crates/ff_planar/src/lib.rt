@@ -1,9 +1,6 @@
 //! The faces of a crease pattern, or why it has none.
 #![tactic(auto)]
 
-mod darts;
-mod drawings;
-mod extents;
 mod finding;
 mod frames;
 mod joining;
@@ -12,13 +9,12 @@ mod listing;
 mod outlines;
 mod reflex;
 mod refusing;
-mod segments;
 mod sides;
 mod traces;
 mod turns;
 mod walks;
 
-pub use drawings::drawing;
+pub use ff_drawn::drawing;
 pub use laws::{
     faces_are_given_or_refused, faces_are_one, given_faces_are_not_refused,
     refusals_of_faces_are_one,

@@ -1,7 +1,7 @@
 //! The faces of a crease pattern.
 ghost use Rattle.std.specs.Prelude.{◌≡◌, ◌<◌, List, Some, length, MatchResult, IfOk};
 ghost use Rattle.ff_types.specs.Sides.{filled as filled_mark, sides_at, IsMarkOf};
-ghost use Rattle.ff_planar.specs.Graphs.{IsGraph};
+ghost use Rattle.ff_drawn.specs.Graphs.{IsGraph};
 ghost use Rattle.ff_planar.specs.Given.{AreGiven, IsNoFaces, AreFilled};
 
 use crate::finding::find;

@@ -1,13 +1,13 @@
 //! How often the outline of a sheet leaves a vertex.
 ghost use Rattle.std.specs.Prelude.{◌≡◌, ◌<◌, ◌↔◌, IsTrue, length, Some};
 ghost use Rattle.ff_types.specs.FaceRefusals.{PinchAt};
-ghost use Rattle.ff_planar.specs.Firsts.{IsFirst};
-ghost use Rattle.ff_planar.specs.Drawn.{IsDrawnBy};
+ghost use Rattle.ff_drawn.specs.Firsts.{IsFirst};
+ghost use Rattle.ff_drawn.specs.Drawn.{IsDrawnBy};
 ghost use Rattle.ff_planar.specs.Traces.{AreTraced, side_at};
 ghost use Rattle.ff_planar.specs.declared.traces.Side.TheVariants.{Outside};
 
-use crate::darts::Dart;
 use crate::traces::Side;
+use ff_drawn::Dart;
 use ff_tables::Items;
 use ff_types::EdgeEnds;
 use ff_whole::Pt;

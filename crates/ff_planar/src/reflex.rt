@@ -6,12 +6,12 @@ ghost use Rattle.ff_types.specs.Rings.{corner};
 ghost use Rattle.ff_types.specs.Drawings.{IsDrawing};
 ghost use Rattle.ff_types.specs.Walks.{AreRingWalks};
 ghost use Rattle.ff_types.specs.FaceRefusals.{ReflexAt, EnclosedAt};
-ghost use Rattle.ff_planar.specs.Graphs.{IsGraph};
-ghost use Rattle.ff_planar.specs.Firsts.{IsFirst};
+ghost use Rattle.ff_drawn.specs.Graphs.{IsGraph};
+ghost use Rattle.ff_drawn.specs.Firsts.{IsFirst};
 ghost use Rattle.ff_planar.specs.Frames.{NoneInside};
 ghost use Rattle.ff_planar.specs.Reflex.{IsBad, IsReflex, HasReflex, SomeReflex, IsInside, SomeInside, AreThere, IsUnbent, AreUnbent};
 
-use crate::segments::{is_left, is_right};
+use ff_drawn::{is_left, is_right};
 use ff_tables::Items;
 use ff_types::EdgeEnds;
 use ff_whole::{Pt, next_place};

@@ -1,18 +1,19 @@
 //! Why a drawing has no faces.
 ghost use Rattle.std.specs.Prelude.{◌≡◌, ◌<◌, ◌≤◌, ◌^◌, List, Some, length, MatchResult};
-ghost use Rattle.ff_planar.specs.Graphs.{IsGraph};
-ghost use Rattle.ff_planar.specs.Drawn.{IsDrawnBy};
+ghost use Rattle.ff_drawn.specs.Graphs.{IsGraph};
+ghost use Rattle.ff_drawn.specs.Drawn.{IsDrawnBy};
+ghost use Rattle.ff_drawn.specs.Extents.{AreSpots};
 ghost use Rattle.ff_planar.specs.Traces.{AreTraced};
 ghost use Rattle.ff_planar.specs.Seen.{AreAllSeen};
 ghost use Rattle.ff_planar.specs.Given.{AreFound, IsNoRings};
 
-use crate::darts::Dart;
 use crate::frames::any_enclosed;
 use crate::joining::first_lost;
 use crate::outlines::first_pinch;
 use crate::reflex::{first_enclosed, first_reflex};
 use crate::sides::first_rim;
 use crate::traces::Side;
+use ff_drawn::{Dart, Extent};
 use ff_tables::Items;
 use ff_types::{EdgeEnds, EdgeSides, Mark, No, Refusal};
 use ff_whole::Pt;
@@ -29,6 +30,7 @@ pub fn refuse(
     rings: &[Items<u32>],
     sides: &[Side],
     seen: &[EdgeSides],
+    spots: &[Extent],
 ) -> Result<(), No>
     requires graph { IsGraph points.now edges.now }
     requires few { length darts.now ≤ 2 ^ 15 }
@@ -37,9 +39,10 @@ pub fn refuse(
     requires drawn { IsDrawnBy points.now edges.now darts.now }
     requires traced { AreTraced points.now edges.now darts.now rings.now sides.now }
     requires seen { AreAllSeen points.now edges.now rings.now seen.now }
+    requires spots { AreSpots points.now spots.now }
     ensures { MatchResult result (λ _. AreFound points.now edges.now marks.now rings.now) (IsNoRings points.now edges.now marks.now) }
 {
-    let any = any_enclosed(alloc, points, rings)?;
+    let any = any_enclosed(alloc, points, rings, spots)?;
     if let Some(e) = first_rim(points, edges, rings, seen, marks) {
         return Err(No::Refused(Refusal::Rim { e: e as u32 }));
     }

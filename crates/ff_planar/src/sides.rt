@@ -3,13 +3,14 @@ ghost use Rattle.std.specs.Prelude.{◌≡◌, ◌<◌, ◌↔◌, IsTrue, lengt
 ghost use Rattle.ff_types.specs.Drawings.{joined, IsDrawing};
 ghost use Rattle.ff_types.specs.Walks.{AreRingWalks};
 ghost use Rattle.ff_types.specs.FaceRefusals.{RimAt};
-ghost use Rattle.ff_planar.specs.Drawn.{IsDrawnBy};
+ghost use Rattle.ff_drawn.specs.Darts.{AreStarts};
+ghost use Rattle.ff_drawn.specs.Drawn.{IsDrawnBy};
 ghost use Rattle.ff_planar.specs.Traces.{AreTraced};
 ghost use Rattle.ff_planar.specs.Seen.{IsSeenOf, AreSeen, AreAllSeen, IsUnfit, given_mark};
-ghost use Rattle.ff_planar.specs.Firsts.{IsFirst};
+ghost use Rattle.ff_drawn.specs.Firsts.{IsFirst};
 
-use crate::darts::{Dart, start_of};
 use crate::traces::Side;
+use ff_drawn::{Dart, place_of};
 use ff_tables::{Items, NoMemory};
 use ff_types::{EdgeEnds, EdgeSides, Mark};
 use ff_whole::Pt;
@@ -20,16 +21,18 @@ fn face_of(
     points: &[Pt],
     edges: &[EdgeEnds],
     darts: &[Dart],
+    starts: &[u32],
     rings: &[Items<u32>],
     sides: &[Side],
     dart: Dart,
 ) -> Option<u32>
     requires drawn { IsDrawnBy points.now edges.now darts.now }
+    requires starts { AreStarts darts.now (length points.now) starts.now }
     requires traced { AreTraced points.now edges.now darts.now rings.now sides.now }
     requires edge { IsTrue (joined edges.now dart.tail dart.head) }
     ensures { IsSeenOf points.now edges.now rings.now dart.tail dart.head result }
 {
-    let d = start_of(darts, dart);
+    let d = place_of(darts, starts, dart);
     match sides[d] {
         Side::Face(f) => Some(f),
         Side::Outside => None,
@@ -43,10 +46,12 @@ pub fn sides_of(
     points: &[Pt],
     edges: &[EdgeEnds],
     darts: &[Dart],
+    starts: &[u32],
     rings: &[Items<u32>],
     sides: &[Side],
 ) -> Result<Vec<EdgeSides>, NoMemory>
     requires drawn { IsDrawnBy points.now edges.now darts.now }
+    requires starts { AreStarts darts.now (length points.now) starts.now }
     requires traced { AreTraced points.now edges.now darts.now rings.now sides.now }
     ensures { IfOk result (λ seen. AreAllSeen points.now edges.now rings.now seen.items) }
 {
@@ -57,6 +62,7 @@ pub fn sides_of(
             points,
             edges,
             darts,
+            starts,
             rings,
             sides,
             Dart { tail: a, head: b },
@@ -65,6 +71,7 @@ pub fn sides_of(
             points,
             edges,
             darts,
+            starts,
             rings,
             sides,
             Dart { tail: b, head: a },

@@ -1,14 +1,15 @@
 //! All walks of a drawing.
 ghost use Rattle.std.specs.Prelude.{◌≡◌, ◌≢◌, ◌<◌, ◌≤◌, ◌^◌, ◌↔◌, ℕ, IsTrue, length, IfOk, OnOk};
 ghost use Rattle.std.specs.List.{All};
-ghost use Rattle.ff_planar.specs.Graphs.{IsGraph};
-ghost use Rattle.ff_planar.specs.Drawn.{IsDrawnBy};
+ghost use Rattle.ff_drawn.specs.Graphs.{IsGraph};
+ghost use Rattle.ff_drawn.specs.Darts.{AreStarts};
+ghost use Rattle.ff_drawn.specs.Drawn.{IsDrawnBy};
 ghost use Rattle.ff_planar.specs.Orbits.{AreNexts};
 ghost use Rattle.ff_planar.specs.Traces.{side_at as side_of, AreTraced, AddsWalk, Fills};
 ghost use Rattle.ff_planar.specs.declared.traces.Side.TheVariants.{Unmet};
 
-use crate::darts::Dart;
 use crate::walks::{goes_round, nexts_of, orbit_of, tails_of};
+use ff_drawn::Dart;
 use ff_tables::{Items, NoMemory};
 use ff_types::EdgeEnds;
 use ff_whole::Pt;
@@ -106,13 +107,15 @@ pub fn trace_of(
     points: &[Pt],
     edges: &[EdgeEnds],
     darts: &[Dart],
+    starts: &[u32],
 ) -> Result<Traced, NoMemory>
     requires graph { IsGraph points.now edges.now }
     requires drawn { IsDrawnBy points.now edges.now darts.now }
+    requires starts { AreStarts darts.now (length points.now) starts.now }
     requires few { length darts.now ≤ 2 ^ 15 }
     ensures { IfOk result (λ traced. AreTraced points.now edges.now darts.now traced.rings.items traced.sides.items) }
 {
-    let nexts = nexts_of(alloc, points, edges, darts)?;
+    let nexts = nexts_of(alloc, points, edges, darts, starts)?;
     let mut sides = vec![in alloc; Side::Unmet; darts.len()]?;
     let rings = trace_into(alloc, points, edges, darts, &nexts, &mut sides)?;
     Ok(Traced { rings, sides })

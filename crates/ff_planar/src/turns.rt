@@ -2,12 +2,12 @@
 ghost use Rattle.std.specs.Prelude.{◌≡◌, ◌<◌, ◌≤◌, ◌+◌, ◌↔◌, IsTrue, length};
 ghost use Rattle.ff_whole.specs.Points.{IsNear, minus};
 ghost use Rattle.ff_whole.proofs.CyclicOrder.{IsTurned};
-ghost use Rattle.ff_planar.specs.Graphs.{IsGraph};
-ghost use Rattle.ff_planar.specs.Drawn.{IsDrawnBy};
+ghost use Rattle.ff_drawn.specs.Graphs.{IsGraph};
+ghost use Rattle.ff_drawn.specs.Darts.{AreStarts};
+ghost use Rattle.ff_drawn.specs.Drawn.{IsDrawnBy};
 ghost use Rattle.ff_planar.specs.Turns.{IsNext, IsFirstOther};
 
-use crate::darts::{Dart, start_of};
-use crate::segments::is_left;
+use ff_drawn::{Dart, is_left};
 use ff_types::EdgeEnds;
 use ff_whole::Pt;
 
@@ -45,21 +45,16 @@ fn first_other(darts: &[Dart], u: u32, start: usize) -> usize
 
 /// The dart along which a walk goes on after the dart `d`: of those that leave the vertex to which it comes, the last
 /// one counterclockwise from the edge back.
-pub fn next_of(points: &[Pt], edges: &[EdgeEnds], darts: &[Dart], d: usize) -> usize
+pub fn next_of(points: &[Pt], edges: &[EdgeEnds], darts: &[Dart], starts: &[u32], d: usize) -> usize
     requires graph { IsGraph points.now edges.now }
     requires drawn { IsDrawnBy points.now edges.now darts.now }
+    requires starts { AreStarts darts.now (length points.now) starts.now }
     requires within { d < length darts.now }
     ensures { IsNext points.now edges.now darts.now d result }
 {
     let Dart { tail: u, head: v } = darts[d];
-    let start = start_of(darts, Dart { tail: v, head: 0 });
-    let end = start_of(
-        darts,
-        Dart {
-            tail: v + 1,
-            head: 0,
-        },
-    );
+    let start = starts[v as usize] as usize;
+    let end = starts[v as usize + 1] as usize;
     let first = first_other(darts, u, start);
     let (o, a) = (points[v as usize], points[u as usize]);
     let mut last = first;

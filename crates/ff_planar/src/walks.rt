@@ -4,12 +4,13 @@ ghost use Rattle.std.specs.List.{All};
 ghost use Rattle.ff_whole.specs.Points.{IsNear, cross};
 ghost use Rattle.ff_whole.specs.Sizes.{IsBelow};
 ghost use Rattle.ff_types.specs.Areas.{area};
-ghost use Rattle.ff_planar.specs.Graphs.{IsGraph};
-ghost use Rattle.ff_planar.specs.Drawn.{IsDrawnBy};
+ghost use Rattle.ff_drawn.specs.Graphs.{IsGraph};
+ghost use Rattle.ff_drawn.specs.Darts.{AreStarts};
+ghost use Rattle.ff_drawn.specs.Drawn.{IsDrawnBy};
 ghost use Rattle.ff_planar.specs.Orbits.{AreNexts, IsOneToOne, IsOrbit, tails};
 
-use crate::darts::Dart;
 use crate::turns::next_of;
+use ff_drawn::Dart;
 use ff_tables::NoMemory;
 use ff_types::EdgeEnds;
 use ff_whole::{Pt, next_place};
@@ -21,15 +22,17 @@ pub fn nexts_of(
     points: &[Pt],
     edges: &[EdgeEnds],
     darts: &[Dart],
+    starts: &[u32],
 ) -> Result<Vec<u32>, NoMemory>
     requires graph { IsGraph points.now edges.now }
     requires drawn { IsDrawnBy points.now edges.now darts.now }
+    requires starts { AreStarts darts.now (length points.now) starts.now }
     requires few { length darts.now < 2 ^ 32 }
     ensures { IfOk result (λ nexts. AreNexts points.now edges.now darts.now nexts.items) }
 {
     let mut nexts = Vec::new(alloc);
     for d in 0..darts.len() {
-        nexts.push(next_of(points, edges, darts, d) as u32)?;
+        nexts.push(next_of(points, edges, darts, starts, d) as u32)?;
     }
     Ok(nexts)
 }

@@ -1,7 +1,7 @@
 use Rattle.ff_planar.proofs.Boxes.{none_inside, west_of_next, hollow_more}
 use Rattle.std.proofs.Common.{◌<◌, ℕ, List, length, sym, subst}
 use Rattle.ff_types.specs.Rings.{corner}
-use Rattle.ff_planar.specs.Extents.{extent_at}
+use Rattle.ff_drawn.specs.Extents.{extent_at}
 use Rattle.ff_planar.specs.Frames.{IsAroundCorners}
 use Rattle.ff_planar.proofs.frames.any_held.Goals as goal
 

@@ -1,5 +1,5 @@
 use Rattle.std.proofs.Common.{ℕ, ◌<◌, ◌≤◌, length}
-use Rattle.ff_planar.specs.Extents.{extent_at}
+use Rattle.ff_drawn.specs.Extents.{extent_at}
 use Rattle.ff_planar.specs.Frames.{AreWest, AreHollow}
 use Rattle.ff_planar.proofs.frames.any_held.Given as goal
 

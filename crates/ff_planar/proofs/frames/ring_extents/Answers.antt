@@ -2,7 +2,8 @@ use Rattle.std.proofs.Common.{◌+◌, ◌<◌, ◌∙◌, ap, arith, sym, subst
 use Rattle.std.proofs.lemmas.List.{length_push}
 use Rattle.ff_types.specs.Rings.{corner}
 use Rattle.ff_planar.specs.Frames.{IsRingExtent}
-use Rattle.ff_planar.proofs.Boxes.{each_more, ring_is}
+use Rattle.ff_drawn.proofs.VertexSpots.{each_more}
+use Rattle.ff_planar.proofs.Boxes.{ring_is}
 use Rattle.ff_planar.proofs.frames.ring_extents.Goals as goal
 
 pub ring_extent-requires-clause-there : goal.ring_extent-requires-clause-there

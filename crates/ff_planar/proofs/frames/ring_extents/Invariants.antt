@@ -1,5 +1,5 @@
 use Rattle.std.proofs.Common.{◌≡◌, ℕ, ◌<◌, length}
-use Rattle.ff_planar.specs.Extents.{extent_at}
+use Rattle.ff_drawn.specs.Extents.{extent_at}
 use Rattle.ff_planar.specs.Frames.{IsRingExtent}
 use Rattle.ff_planar.proofs.frames.ring_extents.Given as goal
 

@@ -1,6 +1,6 @@
 use Rattle.std.proofs.Common.{arith, length, subst}
 use Rattle.ff_types.specs.FaceRefusals.{RimAt, PinchAt, ReflexAt, EnclosedAt}
-use Rattle.ff_planar.specs.Firsts.{IsFirst}
+use Rattle.ff_drawn.specs.Firsts.{IsFirst}
 use Rattle.ff_planar.specs.Joining.{FirstLost}
 use Rattle.ff_planar.proofs.RingTests.{rings_there}
 use Rattle.ff_planar.proofs.NoFaces.{drawn_from, rim_hopeless, some_ring, all_below}

@@ -1,0 +1,106 @@
+-- Where the darts that leave a vertex begin, one vertex after the other, and halving among them.
+use Rattle.std.proofs.Common.{◌≡◌, ◌⊎◌, inl, inr, ℕ, ◌+◌, ◌<◌, ◌≤◌, List, [], ◌∷◌, ◌++◌, length, slice_index, arith, sym, ◌∙◌, subst}
+use Rattle.std.proofs.lemmas.List.{get_or_append_left, get_or_push}
+use Rattle.ff_drawn.specs.declared.darts.Dart.{Dart}
+use Rattle.ff_drawn.specs.Darts.{dart_at, ComesBefore, AreInOrder, IsStart, ArePassed}
+use Rattle.ff_drawn.proofs.Starts.{before_trans}
+
+last_or : (k n : ℕ) → k < n + 1 → (k < n) ⊎ (k ≡ n)
+last_or k n l = grind arith
+
+le_or : (i j : ℕ) → i ≤ j → (i < j) ⊎ (i ≡ j)
+le_or i j h = grind arith
+
+-- the first dart that leaves a vertex, or would
+abbrev first_of : ℕ → Dart
+first_of v = record { tail = v; head = 0 }
+
+before_first : (p : Dart) (v : ℕ) → ComesBefore p (first_of v) → p.tail < v
+before_first p v (inl l) = l
+before_first p v (inr h) = let l = h.1 in absurd (omega (arith, l))
+
+not_before_first : (darts : List Dart) (v d k : ℕ) → AreInOrder darts → v ≤ (dart_at darts d).tail → d ≤ k → k < length darts → (dart_at darts k).tail < v → ⊥
+not_before_first darts v d k o h l m b = elim (le_or d k l) [
+  | inl n ↦ elim (o.rises d k n m) [ inl x ↦ omega (arith, x, h, b) | inr x ↦ let e = x.0 in omega (arith, e, h, b) ]
+  | inr e ↦ let g = subst (λ j. v ≤ (dart_at darts j).tail) e h in omega (arith, g, b)
+]
+
+-- the search stops at the first dart that leaves v or a later vertex
+pub start_here : (darts : List Dart) (v d : ℕ) → AreInOrder darts → d < length darts → ArePassed darts v d → v ≤ (dart_at darts d).tail → IsStart darts (record { tail = v; head = 0 }) d
+start_here darts v d o l p h = record {
+  within = omega (arith, l);
+  before = p;
+  after = λ k m n b. not_before_first darts v d k o h m n (before_first (dart_at darts k) v b);
+}
+
+-- or at the end
+pub start_past : (darts : List Dart) (v d : ℕ) → length darts ≤ d → d ≤ length darts → ArePassed darts v d → IsStart darts (record { tail = v; head = 0 }) d
+start_past darts v d l m p = record { within = m; before = p; after = λ k n o b. omega (arith, l, n, o) }
+
+pub passed_more : (darts : List Dart) (v d : ℕ) → ArePassed darts v d → (dart_at darts d).tail < v → ArePassed darts v (d + 1)
+passed_more darts v d p l k m = elim (last_or k d m) [ inl n ↦ p k n | inr e ↦ subst (λ j. ComesBefore (dart_at darts j) (first_of v)) (sym e) (inl l) ]
+
+pub passed_next : (darts : List Dart) (v d : ℕ) → IsStart darts (record { tail = v; head = 0 }) d → ArePassed darts (v + 1) d
+passed_next darts v d s k l = let b = before_first (dart_at darts k) v (s.before k l) in inl (omega (arith, b))
+
+-- one vertex more
+pub starts_more : (darts : List Dart) (starts : List ℕ) (v d : ℕ) → length starts ≡ v → ((k : ℕ) → k < v → IsStart darts (record { tail = k; head = 0 }) (slice_index starts k))
+    → IsStart darts (record { tail = v; head = 0 }) d → (k : ℕ) → k < v + 1 → IsStart darts (record { tail = k; head = 0 }) (slice_index (starts ++ d ∷ []) k)
+starts_more darts starts v d n h s k l = elim (last_or k v l) [
+  | inl m ↦ rw (get_or_append_left starts (d ∷ []) 0 k (omega (arith, m, n))) (h k m)
+  | inr e ↦ rw (get_or_push starts d 0 k (n ∙ sym e), e) s
+]
+
+-- ---- halving
+
+-- the place of a dart is not before low and not after high
+pub record IsBetween (darts : List Dart) (q : Dart) (low high : ℕ) : Type 0 where
+  pub order : low ≤ high
+  pub within : high ≤ length darts
+  pub before : (k : ℕ) → k < low → ComesBefore (dart_at darts k) q
+  pub after : (k : ℕ) → high ≤ k → k < length darts → ComesBefore (dart_at darts k) q → ⊥
+
+before_or : (i j : ℕ) → (i ≤ j) ⊎ (j < i)
+before_or i j = grind arith
+
+pub between : (darts : List Dart) (q : Dart) (low high : ℕ) → IsStart darts (record { tail = q.tail; head = 0 }) low → IsStart darts (record { tail = q.tail + 1; head = 0 }) high → IsBetween darts q low high
+between darts q low high a b = record {
+  order = elim (before_or low high) [
+    | inl l ↦ l
+    | inr l ↦ let w = a.within in let x = before_first (dart_at darts high) q.tail (a.before high l) in
+        absurd (b.after high (omega arith) (omega (arith, l, w)) (inl (omega (arith, x))))
+  ];
+  within = b.within;
+  before = λ k l. inl (before_first (dart_at darts k) q.tail (a.before k l));
+  after = λ k l m h. b.after k l m (elim h [ inl x ↦ inl (omega (arith, x)) | inr x ↦ let e = x.0 in inl (omega (arith, e)) ]);
+}
+
+module _ (darts : List Dart) (q : Dart) (low high middle : ℕ) (o : AreInOrder darts) (b : IsBetween darts q low high) (l : low ≤ middle) (m : middle < high) where
+  pub later_half : ComesBefore (dart_at darts middle) q → IsBetween darts q (middle + 1) high
+  later_half h = record {
+    order = omega (arith, m);
+    within = b.within;
+    before = λ k n. elim (last_or k middle n) [
+      | inl x ↦ before_trans (dart_at darts k) (dart_at darts middle) q (o.rises k middle x (let w = b.within in omega (arith, m, w))) h
+      | inr e ↦ subst (λ j. ComesBefore (dart_at darts j) q) (sym e) h
+    ];
+    after = b.after;
+  }
+
+  pub earlier_half : (ComesBefore (dart_at darts middle) q → ⊥) → IsBetween darts q low middle
+  earlier_half h = record {
+    order = l;
+    within = (let w = b.within in omega (arith, m, w));
+    before = b.before;
+    after = λ k n w g. elim (le_or middle k n) [
+      | inl x ↦ h (before_trans (dart_at darts middle) (dart_at darts k) q (o.rises middle k x w) g)
+      | inr e ↦ h (subst (λ j. ComesBefore (dart_at darts j) q) (sym e) g)
+    ];
+  }
+
+pub found_place : (darts : List Dart) (q : Dart) (low high : ℕ) → high ≤ low → IsBetween darts q low high → IsStart darts q low
+found_place darts q low high l b = record {
+  within = (let o = b.order in let w = b.within in omega (arith, o, w));
+  before = b.before;
+  after = λ k m n. b.after k (omega (arith, l, m)) n;
+}

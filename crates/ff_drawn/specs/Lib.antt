@@ -1,0 +1,6 @@
+pub mod Graphs
+pub mod Firsts
+pub mod Drawn
+pub mod Extents
+pub mod Beside
+pub mod Darts

@@ -1,5 +1,0 @@
-use Rattle.ff_planar.specs.Extents.{CrossesNone}
-use Rattle.ff_planar.proofs.extents.crosses_later.Given as goal
-
-abbrev pub invariant-loop-j : goal.invariant-loop-j
-invariant-loop-j l = CrossesNone l.points l.edges l.list l.i l.j
