@@ -48,6 +48,17 @@ run_of_part words left before after answered text a part = record {
   front = front_of words a.0 before after answered text a.2 (part_front before after text part);
 }
 
+-- a front of the text was written, and then memory was refused
+pub run_of_front : (words : List (List ℕ)) (left before after : Option (List ℕ)) (status : Status) → (IsSettled status → ⊥) → (status ≡ WriteFault → ⊥) → (answered : Status) (text : List ℕ)
+    → (input : List ℕ) × Tells left input × IsAnswer words input answered text → GotFront before text after → IsRun words left before after status
+run_of_front words left before after status unsettled no_write answered text a front = record {
+  input = a.0;
+  told = a.1;
+  settled = λ h. absurd (unsettled h);
+  cut = λ e. absurd (no_write e);
+  front = front_of words a.0 before after answered text a.2 front;
+}
+
 -- by status
 settled_or : (words : List (List ℕ)) (input : List ℕ) (before after : Option (List ℕ)) (status : Status) (no_fault : Type 0) (s : Status) (text : List ℕ)
     → (x : IsSettled status → List ℕ) → ((h : IsSettled status) → IsAnswer words input status (x h)) → ((h : IsSettled status) → Got before (x h) after)

@@ -1,7 +1,7 @@
-use Rattle.std.proofs.Common.{◌≡◌, ◌∙◌, ◌+◌, ℕ, suc, arith, subst}
+use Rattle.std.proofs.Common.{◌≡◌, ◌∙◌, ◌+◌, suc, arith, subst}
 use Rattle.ff_report.specs.Heads.{lines_of}
-use Rattle.ff_top.specs.Transfer.{Got, GotFront, GotPart}
-use Rattle.ff_top.specs.Writings.{piece_count, piece_of, text_of}
+use Rattle.ff_top.specs.Transfer.{Got, GotPart}
+use Rattle.ff_top.specs.Writings.{piece_count, piece_of}
 use Rattle.ff_top.proofs.Pieces.{part_front}
 use Rattle.ff_top.proofs.Wrote.{on_err, all_written, got_then, so_far, part_of_all}
 use Rattle.ff_top.proofs.writing.write_pieces.Goals as goal
