@@ -28,7 +28,6 @@ module _ (head : List ℕ) (parts : List Part) (outcomes : List PartOutcome) (la
       ∙ ap (λ t. (head ++ lines_of (part_at (vars_of parts) outcomes) k) ++ t) (part_piece k (omega (arith, l)))
       ∙ append_assoc head (lines_of (part_at (vars_of parts) outcomes) k) (part_at (vars_of parts) outcomes k)
 
-
   -- the head, the parts, the last line
   pub whole : report_text head parts outcomes last ≡ head ++ lines_of (part_at (vars_of parts) outcomes) (length parts) ++ last_line last
   whole = ap (λ t. t ++ piece_at head parts outcomes last (suc (length parts))) (begun (length parts) (omega arith))

@@ -26,7 +26,7 @@ pub struct Report {
     pub parts: Items<Part>,
     pub outcomes: Items<PartOutcome>,
     pub last: Last,
-    pub ghost valid: { AreReported parts outcomes }
+    pub ghost valid: { AreReported parts outcomes },
 }
 
 impl Report {
