@@ -117,16 +117,30 @@ module _ (cells : List Cell) (list : List ℕ) (f h w : ℕ) (of : AreCellsOf ce
       by k (Some y) first = next_some n k y within first
       by k None first = now_none k first (λ second third. without second)
 
-  -- the cells that have the face are all that may have three
-  face_of : (i k : ℕ) → HasThree cells i f h k → (x : ℕ) × (x < length list) × (slice_index list x ≡ i)
-  face_of i k three = of.all i (slice_get_within cells i three.cell three.there) (record { cell = three.cell; there = three.there; face = three.first })
+  -- a cell with all three faces has the same faces as one of the list, which comes no later
+  face_of : (i k : ℕ) → HasThree cells i f h k → (x : ℕ) × (x < length list) × (slice_index list x ≤ i) × HasThree cells (slice_index list x) f h k
+  face_of i k three =
+      let r = of.all i (slice_get_within cells i three.cell three.there) (record { cell = three.cell; there = three.there; face = three.first }) in
+      let own = (of.each r.0 r.1).1 in
+      let same : own.cell.faces ≡ three.cell.faces = r.3 own.cell three.cell own.there three.there in (
+        r.0,
+        r.1,
+        r.2,
+        record {
+          cell = own.cell;
+          there = own.there;
+          first = own.face;
+          second = subst (λ fs. Contains fs h) (sym same) three.second;
+          third = subst (λ fs. Contains fs k) (sym same) three.third;
+        },
+      )
 
   pub row_done : (n : ℕ) (row : List (Option ℕ)) → length list ≤ n → IsRowTo cells list n f h w row → IsRow cells f h w row
   row_done n row far r = record { long = r.long; each = λ k l. by k (row_at row k) (r.each k l) } where
     by : (k : ℕ) (o : Option ℕ) → IsFirstOf cells list n f h k o → IsFirst cells f h k o
-    by k None none = λ i three. (let x = face_of i k three in let l = x.1 in none x.0 (omega (arith, l, far)) (subst (λ j. HasThree cells j f h k) (sym x.2) three))
+    by k None none = λ i three. (let x = face_of i k three in let l = x.1 in none x.0 (omega (arith, l, far)) x.3)
     by k (Some i) (at, has, before) = (
       has,
       λ j less three. (let x = face_of j k three in let l = x.1 in
-          before x.0 (omega (arith, l, far)) (subst (λ m. m < i) (sym x.2) less) (subst (λ m. HasThree cells m f h k) (sym x.2) three)),
+          let le = x.2 in before x.0 (omega (arith, l, far)) (omega (arith, le, less)) x.3),
     )

@@ -1,5 +1,5 @@
 -- How the triples are found: for each pair the faces above it that share a cell with both.
-use Rattle.std.specs.Prelude.{◌≡◌, ℕ, ◌<◌, ◌⊎◌, List, [], ◌∷◌, ◌++◌, map, Vec, length, slice_get, slice_index, slice_index_or, Option, Some, None}
+use Rattle.std.specs.Prelude.{◌≡◌, ℕ, ◌<◌, ◌≤◌, ◌⊎◌, List, [], ◌∷◌, ◌++◌, map, Vec, length, slice_get, slice_index, slice_index_or, Option, Some, None}
 use Rattle.std.specs.declared.alloc.Global.{Global}
 use Rattle.std.specs.List.{Contains}
 use Rattle.ff_types.specs.declared.cites.Cite.TheVariants.{Transitivity}
@@ -18,11 +18,25 @@ pub record HasFace (cells : List Cell) (i f : ℕ) : Type 0 where
 abbrev pub lists_in : List (Vec ℕ Global) → List (List ℕ)
 lists_in vs = map (λ v. v.items) vs
 
--- of the first n cells those that have the face, in order
+-- the cells at both places have the same faces
+abbrev pub HaveSameFaces : List Cell → ℕ → ℕ → Type 0
+HaveSameFaces cells i j = (c d : Cell) → slice_get cells i ≡ Some c → slice_get cells j ≡ Some d → c.faces ≡ d.faces
+
+-- a cell before the one at the place has the same faces
+pub record IsRepeated (cells : List Cell) (i : ℕ) : Type 0 where
+  pub before : ℕ
+  pub cell : Cell
+  pub less : before < i
+  pub there : slice_get cells before ≡ Some cell
+  pub same : HaveSameFaces cells before i
+
+-- of the first n cells some that have the face, in order: each that has it has the same faces as one of them, which
+-- comes no later
 pub record AreCellsOf (cells : List Cell) (n f : ℕ) (list : List ℕ) : Type 0 where
   pub rising : (x y : ℕ) → x < y → y < length list → slice_index list x < slice_index list y
   pub each : (x : ℕ) → x < length list → (slice_index list x < n) × HasFace cells (slice_index list x) f
-  pub all : (i : ℕ) → i < n → HasFace cells i f → (x : ℕ) × (x < length list) × (slice_index list x ≡ i)
+  pub all : (i : ℕ) → i < n → HasFace cells i f
+      → (x : ℕ) × (x < length list) × (slice_index list x ≤ i) × HaveSameFaces cells (slice_index list x) i
 
 abbrev pub list_at : List (List ℕ) → ℕ → List ℕ
 list_at lists f = slice_index_or lists f []

@@ -40,7 +40,8 @@ fn mark_cell(row: &mut [Option<usize>], faces: &[u32], h: u32, cell: usize)
     }
 }
 
-/// Marks each face that shares a cell with `f` and `h` with the first such cell, where `of_f` are the cells of `f`.
+/// Marks each face that shares a cell with `f` and `h` with the first such cell, where `of_f` are cells of `f`, with all sets of
+/// faces that cells of `f` have.
 pub fn mark_row(row: &mut [Option<usize>], cells: &[Cell], of_f: &[usize], f: u32, h: u32)
     requires cells_of { AreCellsOf cells.now (length cells.now) f of_f.now }
     requires below { All (λ c. All (λ k. k < length row.old) c.faces) cells.now }
