@@ -11,10 +11,11 @@ PEER = os.path.join(TOP, '..', 'shared', 'peer')
 
 
 def built(crate):
-    """A program of crates/, built by a run with nothing on standard input."""
+    """A program of crates/, as the gate or an earlier run built it; else it is proved and built first, which takes minutes."""
     folder = os.path.join(TOP, 'crates', crate)
-    subprocess.run(['rt', 'run'], cwd=folder, check=False, stdin=subprocess.DEVNULL, stdout=subprocess.DEVNULL, stderr=subprocess.DEVNULL)
     program = os.path.join(folder, 'out', crate)
+    if not os.path.exists(program):
+        subprocess.run(['rt', 'run'], cwd=folder, check=False, stdin=subprocess.DEVNULL, stdout=subprocess.DEVNULL, stderr=subprocess.DEVNULL)
     if not os.path.exists(program):
         sys.exit('%s could not be built' % crate)
     return program
