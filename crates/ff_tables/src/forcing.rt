@@ -9,7 +9,7 @@ ghost use Rattle.ff_tables.specs.Forces.{agrees_below, AreKnown, ForcedIs, Settl
 use crate::known::{Forced, Known};
 use crate::masks::{all_rows, first_mask, narrowed, open_value};
 use crate::orders::{Order, turned};
-use crate::terms::{Constraint, Kind, Term};
+use crate::terms::{Constraint, Kind, Term, terms_of};
 
 // What one reading of the terms gives.
 #[derive(Clone, Copy)]
@@ -42,7 +42,7 @@ fn read<K: Known>(kind: Kind, terms: &[Term], known: &K) -> Reading
     let first = first_mask(kind);
     let mut rows = all_rows(kind);
     let mut all_known = true;
-    for j in 0..terms.len() {
+    for j in 0..terms_of(kind) {
         let term = terms[j];
         let value = known.value(term.var);
         rows = narrowed(kind, first, j, term.flipped, value, rows);
@@ -61,7 +61,7 @@ fn first_forced<K: Known>(kind: Kind, terms: &[Term], known: &K, rows: u16) -> F
     ensures { ForcedIs kind terms.now (K.known known.now) result }
 {
     let first = first_mask(kind);
-    for j in 0..terms.len() {
+    for j in 0..terms_of(kind) {
         let term = terms[j];
         if let Some(value) = open_value(kind, first, j, known.value(term.var), rows) {
             return Forced::Value {
@@ -73,16 +73,13 @@ fn first_forced<K: Known>(kind: Kind, terms: &[Term], known: &K, rows: u16) -> F
     Forced::Nothing
 }
 
-/// What the constraint forces from the known values: of the terms whose variable is unknown, the first that
-/// has one value in all rows that agree. It takes no memory.
+// What terms of the kind force. Each caller gives one kind, for which loops and masks are fixed then.
 #[inline(always)]
-pub fn forced<K: Known>(constraint: &Constraint, known: &K) -> Forced
-    requires terms { length constraint.now.terms ≡ arity constraint.now.kind }
-    requires vars { (j : ℕ) → j < length constraint.now.terms → (term_at constraint.now.terms j).var < K.count known.now }
-    ensures { ForcedIs constraint.now.kind constraint.now.terms (K.known known.now) result }
+fn forced_by<K: Known>(kind: Kind, terms: &[Term], known: &K) -> Forced
+    requires terms { length terms.now ≡ arity kind }
+    requires vars { (j : ℕ) → j < length terms.now → (term_at terms.now j).var < K.count known.now }
+    ensures { ForcedIs kind terms.now (K.known known.now) result }
 {
-    let kind = constraint.kind;
-    let terms = constraint.terms.as_slice();
     let reading = read(kind, terms, known);
     if reading.rows == 0 {
         return Forced::Dead;
@@ -91,4 +88,21 @@ pub fn forced<K: Known>(constraint: &Constraint, known: &K) -> Forced
         return Forced::Nothing;
     }
     first_forced(kind, terms, known, reading.rows)
+}
+
+/// What the constraint forces from the known values: of the terms whose variable is unknown, the first that
+/// has one value in all rows that agree. It takes no memory.
+#[inline(always)]
+pub fn forced<K: Known>(constraint: &Constraint, known: &K) -> Forced
+    requires terms { length constraint.now.terms ≡ arity constraint.now.kind }
+    requires vars { (j : ℕ) → j < length constraint.now.terms → (term_at constraint.now.terms j).var < K.count known.now }
+    ensures { ForcedIs constraint.now.kind constraint.now.terms (K.known known.now) result }
+{
+    let terms = constraint.terms.as_slice();
+    match constraint.kind {
+        Kind::Transitivity => forced_by(Kind::Transitivity, terms, known),
+        Kind::TacoTaco => forced_by(Kind::TacoTaco, terms, known),
+        Kind::TacoTortilla => forced_by(Kind::TacoTortilla, terms, known),
+        Kind::TortillaTortilla => forced_by(Kind::TortillaTortilla, terms, known),
+    }
 }

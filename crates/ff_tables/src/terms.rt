@@ -62,6 +62,7 @@ pub struct Constraint {
 }
 
 /// How many terms a constraint of the kind has.
+#[inline(always)]
 pub fn terms_of(kind: Kind) -> usize
     ensures { result ≡ arity kind }
 {

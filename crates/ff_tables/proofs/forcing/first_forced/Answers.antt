@@ -17,7 +17,7 @@ returns-in-Some g c =
     ∙ turn_turn t.flipped c.in-Some.value in
     record {
       at = c.loop-j.j;
-      within = c.loop-j-test.true;
+      within = omega arith;
       var = refl;
       unknown = sym c.value.ensures ∙ o.0;
       only = subst (λ s. Only c.args.kind ts (Knows f) c.loop-j.j s) (sym back)

@@ -1,29 +1,33 @@
-use Rattle.std.proofs.Common.{ℕ, List, subst, Option, inl, arith}
+use Rattle.std.proofs.Common.{◌≡◌, ℕ, List, subst, sym, Option}
 use Rattle.ff_tables.specs.declared.orders.Order.{Order}
+use Rattle.ff_tables.specs.declared.terms.Kind.{Kind}
+use Rattle.ff_tables.specs.declared.terms.Kind.TheVariants as kind
 use Rattle.ff_tables.specs.declared.terms.Term.{Term}
-use Rattle.ff_tables.specs.declared.known.Forced.TheVariants.{Nothing}
-use Rattle.ff_tables.specs.Forces.{NoneAgrees, Knows, ForcedIs}
-use Rattle.ff_tables.proofs.Agreeing.{none_rows, some_rows}
+use Rattle.ff_tables.specs.declared.known.Forced.{Forced}
+use Rattle.ff_tables.specs.Forces.{ForcedIs}
 use Rattle.ff_tables.proofs.forcing.forced.Goals as goal
 
-pub returns-then-reading-eq0 : goal.returns-then-reading-eq0
-returns-then-reading-eq0 g c =
-    let f : ℕ → Option Order = g.K.Known.known c.args.known.now in
-    subst (λ (ts : List Term). NoneAgrees c.args.constraint.now.kind ts (Knows f)) c.as_slice-terms.ensures.value
-    (none_rows c.args.constraint.now.kind c.as_slice-terms.result.now f c.read-reading.result.rows
-    c.read-reading.ensures.rows c.if-reading-eq0.true)
+of_kind : (kind k : Kind) (ts us : List Term) (f : ℕ → Option Order) (r : Forced) → kind ≡ k → us ≡ ts
+    → ForcedIs k us f r → ForcedIs kind ts f r
+of_kind kind k ts us f r is same h = subst (λ (z : Kind). ForcedIs z ts f r) (sym is)
+    (subst (λ (z : List Term). ForcedIs k z f r) same h)
 
-pub returns-then-reading : goal.returns-then-reading
-returns-then-reading g c =
-    let f : ℕ → Option Order = g.K.Known.known c.args.known.now in
-    subst (λ (ts : List Term). ForcedIs c.args.constraint.now.kind ts f Nothing) c.as_slice-terms.ensures.value (
-      some_rows c.args.constraint.now.kind c.as_slice-terms.result.now f c.read-reading.result.rows
-          c.read-reading.ensures.rows (omega (arith, c.if-reading-eq0.false)),
-      λ p l. inl (c.read-reading.ensures.known c.if-reading.true p l),
-    )
+pub returns-in-Transitivity : goal.returns-in-Transitivity
+returns-in-Transitivity g c = of_kind c.args.constraint.now.kind kind.Transitivity c.args.constraint.now.terms
+    c.as_slice-terms.result.now (g.K.Known.known c.args.known.now) c.forced_by.result c.in-Transitivity.is
+    c.as_slice-terms.ensures.value c.forced_by.ensures
 
-pub returns : goal.returns
-returns g c =
-    let f : ℕ → Option Order = g.K.Known.known c.args.known.now in
-    subst (λ (ts : List Term). ForcedIs c.args.constraint.now.kind ts f c.first_forced.result)
-    c.as_slice-terms.ensures.value c.first_forced.ensures
+pub returns-in-TacoTaco : goal.returns-in-TacoTaco
+returns-in-TacoTaco g c = of_kind c.args.constraint.now.kind kind.TacoTaco c.args.constraint.now.terms
+    c.as_slice-terms.result.now (g.K.Known.known c.args.known.now) c.forced_by-in-TacoTaco.result c.in-TacoTaco.is
+    c.as_slice-terms.ensures.value c.forced_by-in-TacoTaco.ensures
+
+pub returns-in-TacoTortilla : goal.returns-in-TacoTortilla
+returns-in-TacoTortilla g c = of_kind c.args.constraint.now.kind kind.TacoTortilla c.args.constraint.now.terms
+    c.as_slice-terms.result.now (g.K.Known.known c.args.known.now) c.forced_by-in-TacoTortilla.result c.in-TacoTortilla.is
+    c.as_slice-terms.ensures.value c.forced_by-in-TacoTortilla.ensures
+
+pub returns-in-TortillaTortilla : goal.returns-in-TortillaTortilla
+returns-in-TortillaTortilla g c = of_kind c.args.constraint.now.kind kind.TortillaTortilla c.args.constraint.now.terms
+    c.as_slice-terms.result.now (g.K.Known.known c.args.known.now) c.forced_by-in-TortillaTortilla.result c.in-TortillaTortilla.is
+    c.as_slice-terms.ensures.value c.forced_by-in-TortillaTortilla.ensures
