@@ -92,11 +92,11 @@ impl Labels {
         let constraints = system.constraints.as_slice();
         let var = self.queue[head];
         let mut left = chains.last(system.vars, constraints, var);
-        while left > 0 {
-            let c = left - 1;
+        while left.past > 0 {
+            let c = left.past - 1;
             let con = &constraints[c as usize];
             self.follow(system, facts, con, var, part);
-            left = chains.before(system.vars, constraints, con, c, var);
+            left = chains.before(system.vars, constraints, con, left, var);
         }
     }
 

@@ -22,13 +22,13 @@ impl Work {
         ensures passes { Passes task.now.constraints.now (head + 1) self.new result }
     {
         let mut left = chains.last(task.vars, task.constraints, var);
-        while left > 0 {
-            let c = left - 1;
+        while left.past > 0 {
+            let c = left.past - 1;
             let con = &task.constraints[c as usize];
             if !self.examine(task, con, c) {
                 return Some(c);
             }
-            left = chains.before(task.vars, task.constraints, con, c, var);
+            left = chains.before(task.vars, task.constraints, con, left, var);
         }
         None
     }

@@ -12,7 +12,7 @@ mod parts;
 mod passing;
 mod work;
 
-pub use chains::Chains;
+pub use chains::{Chains, Link};
 pub use closing::{close, givens_fit};
 pub use facts::{ClashAt, Closed, Fact, Facts, Reason};
 pub use laws::{facts_are_in_the_closure, further_facts_keep_the_rule};

@@ -23,13 +23,13 @@ impl Trail {
     {
         let constraints = system.constraints.as_slice();
         let mut left = chains.last(system.vars, constraints, var);
-        while left > 0 {
-            let c = left - 1;
+        while left.past > 0 {
+            let c = left.past - 1;
             let con = &constraints[c as usize];
             if !self.examine(system, con) {
                 return false;
             }
-            left = chains.before(system.vars, constraints, con, c, var);
+            left = chains.before(system.vars, constraints, con, left, var);
         }
         true
     }

@@ -5,8 +5,8 @@ use Rattle.ff_solver.proofs.trail.Trail.visit.Given as goal
 
 abbrev pub invariant-loop-left : goal.invariant-loop-left
 invariant-loop-left l = IsTrail l.system.vars l.self × Grows l.system.constraints l.fn.self l.self
-    × (l.left ≤ length l.system.constraints)
-    × Almost l.system.constraints l.self (l.head + 1) l.var l.left
+    × (l.left.past ≤ length l.system.constraints)
+    × Almost l.system.constraints l.self (l.head + 1) l.var l.left.past
 
 abbrev pub decreases-loop-left : goal.decreases-loop-left
-decreases-loop-left l = l.left
+decreases-loop-left l = l.left.past
