@@ -2,7 +2,8 @@
 ghost use Rattle.std.specs.Prelude.{◌≡◌, ℕ, ◌<◌, IsTrue, length, map, Some};
 ghost use Rattle.ff_tables.specs.declared.orders.Order.{Order as OrderSpec};
 ghost use Rattle.ff_tables.specs.Orders.{term_at};
-ghost use Rattle.ff_tables.specs.Rows.{rows_of, arity};
+ghost use Rattle.ff_tables.specs.declared.terms.Kind.TheVariants.{Transitivity};
+ghost use Rattle.ff_tables.specs.Rows.{rows_of, arity, has_no_cycle};
 ghost use Rattle.ff_tables.specs.Masks.{bits};
 ghost use Rattle.ff_tables.specs.Forces.{agrees_below, AreKnown, ForcedIs, SettlesBelow};
 
@@ -90,6 +91,42 @@ fn forced_by<K: Known>(kind: Kind, terms: &[Term], known: &K) -> Forced
     first_forced(kind, terms, known, reading.rows)
 }
 
+// Whether three faces may stand to each other so.
+#[inline(always)]
+fn may_stand(pq: Order, pr: Order, qr: Order) -> bool
+    ensures { result ≡ has_no_cycle pq pr qr }
+{
+    pq != qr || pq == pr
+}
+
+// What terms of transitivity force. Mostly all three are known.
+#[inline(always)]
+fn forced_by_three<K: Known>(terms: &[Term], known: &K) -> Forced
+    requires terms { length terms.now ≡ 3 }
+    requires vars { (j : ℕ) → j < length terms.now → (term_at terms.now j).var < K.count known.now }
+    ensures { ForcedIs Transitivity terms.now (K.known known.now) result }
+{
+    let (p, q, r) = (terms[0], terms[1], terms[2]);
+    let Some(a) = known.value(p.var) else {
+        return forced_by(Kind::Transitivity, terms, known);
+    };
+    let Some(b) = known.value(q.var) else {
+        return forced_by(Kind::Transitivity, terms, known);
+    };
+    let Some(c) = known.value(r.var) else {
+        return forced_by(Kind::Transitivity, terms, known);
+    };
+    if may_stand(
+        turned(p.flipped, a),
+        turned(q.flipped, b),
+        turned(r.flipped, c),
+    ) {
+        Forced::Nothing
+    } else {
+        Forced::Dead
+    }
+}
+
 /// What the constraint forces from the known values: of the terms whose variable is unknown, the first that
 /// has one value in all rows that agree. It takes no memory.
 #[inline(always)]
@@ -100,7 +137,7 @@ pub fn forced<K: Known>(constraint: &Constraint, known: &K) -> Forced
 {
     let terms = constraint.terms.as_slice();
     match constraint.kind {
-        Kind::Transitivity => forced_by(Kind::Transitivity, terms, known),
+        Kind::Transitivity => forced_by_three(terms, known),
         Kind::TacoTaco => forced_by(Kind::TacoTaco, terms, known),
         Kind::TacoTortilla => forced_by(Kind::TacoTortilla, terms, known),
         Kind::TortillaTortilla => forced_by(Kind::TortillaTortilla, terms, known),

@@ -14,13 +14,13 @@ of_kind kind k ts us f r is same h = subst (λ (z : Kind). ForcedIs z ts f r) (s
 
 pub returns-in-Transitivity : goal.returns-in-Transitivity
 returns-in-Transitivity g c = of_kind c.args.constraint.now.kind kind.Transitivity c.args.constraint.now.terms
-    c.as_slice-terms.result.now (g.K.Known.known c.args.known.now) c.forced_by.result c.in-Transitivity.is
-    c.as_slice-terms.ensures.value c.forced_by.ensures
+    c.as_slice-terms.result.now (g.K.Known.known c.args.known.now) c.forced_by_three.result c.in-Transitivity.is
+    c.as_slice-terms.ensures.value c.forced_by_three.ensures
 
 pub returns-in-TacoTaco : goal.returns-in-TacoTaco
 returns-in-TacoTaco g c = of_kind c.args.constraint.now.kind kind.TacoTaco c.args.constraint.now.terms
-    c.as_slice-terms.result.now (g.K.Known.known c.args.known.now) c.forced_by-in-TacoTaco.result c.in-TacoTaco.is
-    c.as_slice-terms.ensures.value c.forced_by-in-TacoTaco.ensures
+    c.as_slice-terms.result.now (g.K.Known.known c.args.known.now) c.forced_by.result c.in-TacoTaco.is
+    c.as_slice-terms.ensures.value c.forced_by.ensures
 
 pub returns-in-TacoTortilla : goal.returns-in-TacoTortilla
 returns-in-TacoTortilla g c = of_kind c.args.constraint.now.kind kind.TacoTortilla c.args.constraint.now.terms
