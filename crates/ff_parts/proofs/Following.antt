@@ -1,11 +1,11 @@
 -- Constraints are followed from the variables that were reached.
-use Rattle.std.proofs.Common.{List, get_or, ◌≡◌, ℕ, zero, suc, ◌+◌, ◌-◌, ◌<◌, ◌≤◌, ◌⊎◌, length, slice_get, slice_index, Option, Some, sym, ap, ◌∙◌, subst, inl, inr, arith}
-use Rattle.std.proofs.lemmas.Option.{slice_get_within, slice_get-get_or}
+use Rattle.std.proofs.Common.{List, get_or, ◌≡◌, ℕ, zero, suc, ◌+◌, ◌<◌, ◌≤◌, ◌⊎◌, length, slice_get, slice_index, Option, Some, refl, sym, ap, ◌∙◌, subst, inl, inr, arith}
+use Rattle.std.proofs.lemmas.Option.{slice_get-get_or}
 use Rattle.std.proofs.lemmas.Bool.{cases_eq}
 use Rattle.ff_tables.specs.declared.orders.Order.{Order}
 use Rattle.ff_tables.specs.declared.terms.Constraint.{Constraint}
 use Rattle.ff_tables.specs.Orders.{term_at}
-use Rattle.ff_propagate.specs.Chained.{Covers}
+use Rattle.ff_propagate.specs.Uses.{IsUse, IsFrom, IsIn}
 use Rattle.ff_parts.specs.declared.labels.Labels.{Labels}
 use Rattle.ff_parts.specs.Labels.{label, AreAlike, IsOwn, AreMixed, Rests, Ready, AreOf, Spreads, IsSpreading, AllLabelled, HasVar}
 use Rattle.ff_parts.proofs.Reaching.{spreads_refl, spreads_trans}
@@ -48,49 +48,47 @@ labelled_alike value p l con labelled mixed i j li lj oi oj = elim (mixed i j li
     own (inl e) s = absurd (omega (arith, e, s))
     own (inr e) s = e
 
--- the constraint has the variable v and is below k
-abbrev pub IsLeft : Constraint → ℕ → ℕ → ℕ → Type 0
-IsLeft con c v k = (c < k) × HasVar con v
+-- each constraint rests, or has the variable and is left to be visited
+abbrev pub Almost : List Constraint → (ℕ → Option Order) → ℕ → Labels → ℕ → List ℕ → ℕ → Type 0
+Almost cons value v l head list k = (c : ℕ) (con : Constraint) → slice_get cons c ≡ Some con
+    → Rests value l head con ⊎ (HasVar con v × IsFrom list k c)
 
--- each constraint rests, or is left to be visited
-abbrev pub Almost : List Constraint → (ℕ → Option Order) → Labels → ℕ → ℕ → ℕ → Type 0
-Almost cons value l head v k = (c : ℕ) (con : Constraint) → slice_get cons c ≡ Some con
-    → Rests value l head con ⊎ IsLeft con c v k
-
-pub begins : (cons : List Constraint) (value : ℕ → Option Order) (l : Labels) (head v k : ℕ)
-    → slice_index l.queue.items head ≡ v → Ready cons value l head → Covers cons (length cons) v k
-    → Almost cons value l (head + 1) v k
-begins cons value l head v k here ready covers c con at = sort (ready c con at)
+begins : (cons : List Constraint) (value : ℕ → Option Order) (l : Labels) (head v : ℕ) (list : List ℕ)
+    → slice_index l.queue.items head ≡ v → Ready cons value l head → ((d : ℕ) → IsUse cons d v → IsIn list d)
+    → Almost cons value v l (head + 1) list 0
+begins cons value l head v list here ready each c con at = sort (ready c con at)
   where
-    sort : Rests value l head con → Rests value l (head + 1) con ⊎ IsLeft con c v k
+    sort : Rests value l head con → Rests value l (head + 1) con ⊎ (HasVar con v × IsFrom list 0 c)
     sort (inr q) = inl (inr q)
     sort (inl (i, j, a, b, m, e)) = elim (cases_eq i head) [
       | inl s ↦ (let var : (term_at con.terms j).var ≡ v = sym e ∙ ap (slice_index l.queue.items) s ∙ here in
-          inr (covers c con j (slice_get_within cons c con at) at m var, (j, m, var)))
+          inr ((j, m, var), each c (record { con = con; there = at; place = j; within = m; var = var })))
       | inr ne ↦ inl (inl (i, j, omega (arith, a, ne), b, m, e))
     ]
 
 -- one constraint is visited
 visits : (cons : List Constraint) (value : ℕ → Option Order) (p : ℕ) (old new : Labels) (head v k n : ℕ)
-    → Spreads p old new → head ≤ length old.queue.items → Almost cons value old head v (n + 1)
+    (list : List ℕ) → Spreads p old new → head ≤ length old.queue.items → slice_index list k ≡ n
+    → Almost cons value v old head list k
     → ((con : Constraint) → slice_get cons n ≡ Some con → HasVar con v → Rests value new head con)
-    → Covers cons n v k → Almost cons value new head v k
-visits cons value p old new head v k n x h almost here covers c con at = sort (almost c con at)
+    → Almost cons value v new head list (k + 1)
+visits cons value p old new head v k n list x h is almost here c con at = sort (almost c con at)
   where
-    sort : Rests value old head con ⊎ IsLeft con c v (n + 1) → Rests value new head con ⊎ IsLeft con c v k
+    sort : Rests value old head con ⊎ (HasVar con v × IsFrom list k c)
+        → Rests value new head con ⊎ (HasVar con v × IsFrom list (k + 1) c)
     sort (inl q) = inl (keeps value p old new head con x h q)
-    sort (inr (l, (i, b, e))) = elim (cases_eq c n) [
-      | inl s ↦ inl (here con (ap (slice_get cons) (sym s) ∙ at) (i, b, e))
-      | inr ne ↦ inr (covers c con i (omega (arith, l, ne)) at b e, (i, b, e))
+    sort (inr (has, (j, l, m, e))) = elim (cases_eq j k) [
+      | inl s ↦ inl (here con (ap (slice_get cons) (sym is ∙ ap (slice_index list) (sym s) ∙ e) ∙ at) has)
+      | inr ne ↦ inr (has, (j, omega (arith, l, ne), m, e))
     ]
 
-ends : (cons : List Constraint) (value : ℕ → Option Order) (l : Labels) (head v k : ℕ) → k ≤ 0
-    → Almost cons value l head v k → Ready cons value l head
-ends cons value l head v k z almost c con at = sort (almost c con at)
+ends : (cons : List Constraint) (value : ℕ → Option Order) (l : Labels) (head v k : ℕ) (list : List ℕ)
+    → length list ≤ k → Almost cons value v l head list k → Ready cons value l head
+ends cons value l head v k list z almost c con at = sort (almost c con at)
   where
-    sort : Rests value l head con ⊎ IsLeft con c v k → Rests value l head con
+    sort : Rests value l head con ⊎ (HasVar con v × IsFrom list k c) → Rests value l head con
     sort (inl p) = p
-    sort (inr (m, r)) = absurd (omega (arith, m, z))
+    sort (inr (has, (j, a, b, e))) = absurd (omega (arith, a, b, z))
 
 pub same_con : {o : Option Constraint} {a b : Constraint} → o ≡ Some a → o ≡ Some b → a ≡ b
 same_con p q = cc
@@ -101,54 +99,47 @@ con_read cons cs k con same l is = slice_get-get_or cons k con l
     ∙ ap (λ d. Some d) (sym (is ∙ ap (λ ds. get_or ds k con) same))
 
 -- what holds while the constraints of the variable reached as the head-th are gone through
-pub record IsVisiting (vars : ℕ) (cons : List Constraint) (value : ℕ → Option Order) (p head v left : ℕ)
+pub record IsVisiting (vars : ℕ) (cons : List Constraint) (value : ℕ → Option Order) (p head v : ℕ) (list : List ℕ) (k : ℕ)
     (old now : Labels) : Type 0 where
   pub spreading : IsSpreading vars cons value p now
   pub spreads : Spreads p old now
-  pub inside : left ≤ length cons
   pub own : label now v ≡ p
-  pub almost : Almost cons value now (head + 1) v left
+  pub almost : Almost cons value v now (head + 1) list k
 
-pub visit_begins : (vars : ℕ) (cons : List Constraint) (value : ℕ → Option Order) (p head v left : ℕ)
+pub visit_begins : (vars : ℕ) (cons : List Constraint) (value : ℕ → Option Order) (p head v : ℕ) (list : List ℕ)
     (l : Labels) → IsSpreading vars cons value p l → slice_index l.queue.items head ≡ v
     → label l (slice_index l.queue.items head) ≡ p
-    → Ready cons value l head → left ≤ length cons → Covers cons (length cons) v left
-    → IsVisiting vars cons value p head v left l l
-visit_begins vars cons value p head v left l s here own ready inside covers = record {
+    → Ready cons value l head → ((d : ℕ) → IsUse cons d v → IsIn list d)
+    → IsVisiting vars cons value p head v list 0 l l
+visit_begins vars cons value p head v list l s here own ready each = record {
   spreading = s;
   spreads = spreads_refl p l;
-  inside = inside;
   own = ap (label l) (sym here) ∙ own;
-  almost = begins cons value l head v left here ready covers;
+  almost = begins cons value l head v list here ready each;
 }
 
--- the constraint before left has the variable and is examined
-pub visit_on : (vars : ℕ) (cons : List Constraint) (value : ℕ → Option Order) (p head v left k : ℕ)
-    (old now new : Labels) (con : Constraint) → IsVisiting vars cons value p head v left old now
-    → head < length old.queue.items → 0 < left
-    → slice_get cons (left - 1) ≡ Some con → IsSpreading vars cons value p new → Spreads p now new
-    → (HasVar con v → AllLabelled value new con (length con.terms)) → k ≤ left - 1
-    → Covers cons (left - 1) v k
-    → IsVisiting vars cons value p head v k old new
-visit_on vars cons value p head v left k old now new con vis h some at s x labelled inside covers =
-    let e : left - 1 + 1 ≡ left = omega (arith, some) in
-    record {
-      spreading = s;
-      spreads = spreads_trans p old now new s.some vis.spreads x;
-      inside = omega (arith, inside, vis.inside);
-      own = x.kept v (omega (arith, vis.own, s.some)) ∙ vis.own;
-      almost = visits cons value p now new (head + 1) v k (left - 1) x (omega (arith, h, vis.spreads.count))
-          (subst (λ n. Almost cons value now (head + 1) v n) (sym e) vis.almost)
-          (λ d there has. subst (λ q. Rests value new (head + 1) q) (same_con at there)
-          (inr (labelled_alike value p new con
-          (labelled (subst (λ q. HasVar q v) (same_con there at) has)) (s.mixed (left - 1) con at))))
-          covers;
-    }
+-- the k-th constraint of the list is examined
+pub visit_on : (vars : ℕ) (cons : List Constraint) (value : ℕ → Option Order) (p head v : ℕ) (list : List ℕ) (k : ℕ)
+    (old now new : Labels) (con : Constraint) → IsVisiting vars cons value p head v list k old now
+    → head < length old.queue.items
+    → slice_get cons (slice_index list k) ≡ Some con → IsSpreading vars cons value p new → Spreads p now new
+    → (HasVar con v → AllLabelled value new con (length con.terms))
+    → IsVisiting vars cons value p head v list (k + 1) old new
+visit_on vars cons value p head v list k old now new con vis h at s x labelled = record {
+  spreading = s;
+  spreads = spreads_trans p old now new s.some vis.spreads x;
+  own = x.kept v (omega (arith, vis.own, s.some)) ∙ vis.own;
+  almost = visits cons value p now new (head + 1) v k (slice_index list k) list x
+      (omega (arith, h, vis.spreads.count)) refl vis.almost
+      (λ d there has. subst (λ q. Rests value new (head + 1) q) (same_con at there)
+      (inr (labelled_alike value p new con
+      (labelled (subst (λ q. HasVar q v) (same_con there at) has)) (s.mixed (slice_index list k) con at))));
+}
 
-pub visit_ends : (vars : ℕ) (cons : List Constraint) (value : ℕ → Option Order) (p head v left : ℕ)
-    (old now : Labels) → IsVisiting vars cons value p head v left old now → left ≤ 0
+pub visit_ends : (vars : ℕ) (cons : List Constraint) (value : ℕ → Option Order) (p head v : ℕ) (list : List ℕ) (k : ℕ)
+    (old now : Labels) → IsVisiting vars cons value p head v list k old now → length list ≤ k
     → Ready cons value now (head + 1)
-visit_ends vars cons value p head v left old now vis z = ends cons value now (head + 1) v left z vis.almost
+visit_ends vars cons value p head v list k old now vis z = ends cons value now (head + 1) v k list z vis.almost
 
 -- what holds while the queue is gone through
 pub record IsFollowing (vars : ℕ) (cons : List Constraint) (value : ℕ → Option Order) (p at : ℕ)

@@ -1,11 +1,11 @@
 //! All undecided variables are labelled.
 ghost use Rattle.std.specs.Prelude.{◌≡◌, ℕ, ◌+◌, ◌<◌, ◌≤◌, ◌^◌, IfOk, length, None};
-ghost use Rattle.ff_propagate.specs.Chained.{IsChained};
+ghost use Rattle.ff_propagate.specs.Uses.{AreUses};
 ghost use Rattle.ff_propagate.specs.Facts.{value_at};
 ghost use Rattle.ff_parts.specs.Labels.{label, IsBelow};
 
 use crate::labels::Labels;
-use ff_propagate::{Chains, Facts};
+use ff_propagate::{Facts, Uses};
 use ff_tables::{NoMemory, System};
 use std::alloc::Global;
 
@@ -27,10 +27,10 @@ impl Labels {
     }
 
     // Begins a part with the variable, and follows constraints from it.
-    fn begin(&mut self, system: &System, facts: &Facts, chains: &Chains, var: u32)
+    fn begin(&mut self, system: &System, facts: &Facts, uses: &Uses, var: u32)
         requires facts { length facts.now ≡ system.now.vars }
         requires few { length system.now.constraints < 2 ^ 32 }
-        requires chains { IsChained system.now.vars system.now.constraints chains.now }
+        requires uses { AreUses system.now.vars system.now.constraints uses.now }
         requires var { var < system.now.vars }
         requires open { value_at facts.now var ≡ None }
         requires unlabelled { label self.old var ≡ 0 }
@@ -42,20 +42,20 @@ impl Labels {
         let part = self.firsts.len() as u32;
         self.part_of[var as usize] = part;
         self.queue.push_reserved(var);
-        self.spread(system, facts, chains, from, part);
+        self.spread(system, facts, uses, from, part);
     }
 
     // Labels the variable, and those that are connected to it, where it is undecided and has no label.
-    fn take(&mut self, system: &System, facts: &Facts, chains: &Chains, var: u32)
+    fn take(&mut self, system: &System, facts: &Facts, uses: &Uses, var: u32)
         requires facts { length facts.now ≡ system.now.vars }
         requires few { length system.now.constraints < 2 ^ 32 }
-        requires chains { IsChained system.now.vars system.now.constraints chains.now }
+        requires uses { AreUses system.now.vars system.now.constraints uses.now }
         requires var { var < system.now.vars }
         requires below { IsBelow system.now.vars system.now.constraints (value_at facts.now) var self.old }
         ensures { IsBelow system.now.vars system.now.constraints (value_at facts.now) (var + 1) self.new }
     {
         if facts.fact(var).is_none() && self.part_of[var as usize] == 0 {
-            self.begin(system, facts, chains, var);
+            self.begin(system, facts, uses, var);
         }
     }
 
@@ -65,10 +65,10 @@ impl Labels {
         requires few { length system.now.constraints < 2 ^ 32 }
         ensures { IfOk result (λ l. IsBelow system.now.vars system.now.constraints (value_at facts.now) system.now.vars l) }
     {
-        let chains = Chains::new(alloc, system.vars, system.constraints.as_slice())?;
+        let uses = Uses::new(alloc, system.vars, system.constraints.as_slice())?;
         let mut labels = Labels::new(alloc, system, facts)?;
         for var in 0..system.vars {
-            labels.take(system, facts, &chains, var);
+            labels.take(system, facts, &uses, var);
         }
         Ok(labels)
     }

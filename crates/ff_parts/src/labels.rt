@@ -1,10 +1,10 @@
 //! Undecided variables are labelled by their parts, breadth first.
 ghost use Rattle.std.specs.Prelude.{◌≡◌, ℕ, suc, ◌+◌, ◌<◌, ◌≤◌, ◌^◌, ◌⊎◌, IsTrue, false, length, None, Some, slice_get, slice_index, vec_len, vec_capacity};
-ghost use Rattle.ff_propagate.specs.Chained.{IsChained};
+ghost use Rattle.ff_propagate.specs.Uses.{AreUses};
 ghost use Rattle.ff_propagate.specs.Facts.{value_at};
 ghost use Rattle.ff_parts.specs.Labels.{label, IsSpreading, Spreads, AllLabelled, HasOwn, HasVar, Ready, AreOf, Reaches};
 
-use ff_propagate::{Chains, Facts};
+use ff_propagate::{Facts, Uses};
 use ff_tables::{Constraint, System};
 
 /// For each variable one more than the number of its part, 0 where it has none so far; the variables that have one, in the
@@ -77,10 +77,10 @@ impl Labels {
     }
 
     // Examines the constraints that have the variable reached as the head-th, which is of the part.
-    fn visit(&mut self, system: &System, facts: &Facts, chains: &Chains, head: usize, part: u32)
+    fn visit(&mut self, system: &System, facts: &Facts, uses: &Uses, head: usize, part: u32)
         requires facts { length facts.now ≡ system.now.vars }
         requires few { length system.now.constraints < 2 ^ 32 }
-        requires chains { IsChained system.now.vars system.now.constraints chains.now }
+        requires uses { AreUses system.now.vars system.now.constraints uses.now }
         requires head { head < length self.old.queue.items }
         requires own { label self.old (slice_index self.old.queue.items head) ≡ part }
         requires spreading { IsSpreading system.now.vars system.now.constraints (value_at facts.now) part self.old }
@@ -91,12 +91,9 @@ impl Labels {
     {
         let constraints = system.constraints.as_slice();
         let var = self.queue[head];
-        let mut left = chains.last(system.vars, constraints, var);
-        while left.past > 0 {
-            let c = left.past - 1;
-            let con = &constraints[c as usize];
-            self.follow(system, facts, con, var, part);
-            left = chains.before(system.vars, constraints, con, left, var);
+        let list = uses.of(system.vars, constraints, var);
+        for k in 0..list.len() {
+            self.follow(system, facts, &constraints[list[k] as usize], var, part);
         }
     }
 
@@ -105,13 +102,13 @@ impl Labels {
         &mut self,
         system: &System,
         facts: &Facts,
-        chains: &Chains,
+        uses: &Uses,
         from: usize,
         part: u32,
     )
         requires facts { length facts.now ≡ system.now.vars }
         requires few { length system.now.constraints < 2 ^ 32 }
-        requires chains { IsChained system.now.vars system.now.constraints chains.now }
+        requires uses { AreUses system.now.vars system.now.constraints uses.now }
         requires from { from ≤ length self.old.queue.items }
         requires own { AreOf part self.old from }
         requires spreading { IsSpreading system.now.vars system.now.constraints (value_at facts.now) part self.old }
@@ -122,7 +119,7 @@ impl Labels {
     {
         let mut at = from;
         while at < self.queue.len() {
-            self.visit(system, facts, chains, at, part);
+            self.visit(system, facts, uses, at, part);
             at += 1;
         }
     }

@@ -7,7 +7,7 @@ pub mod Parts
 pub mod Solutions
 pub mod Trees
 pub mod Choices
-pub mod Chained
+pub mod Uses
 pub mod Stands
 pub mod Ends
 pub mod Giving

@@ -5,9 +5,9 @@ ghost use Rattle.ff_propagate.specs.Closing.{GivensFit, ClosesTo};
 ghost use Rattle.ff_propagate.specs.Stands.{Stand, Extends, Passes};
 ghost use Rattle.ff_propagate.specs.Giving.{Starts};
 
-use crate::chains::Chains;
 use crate::facts::{ClashAt, Closed, Facts};
 use crate::passing::Passed;
+use crate::uses::Uses;
 use crate::work::{Task, Work};
 use ff_tables::{Given, Items, NoMemory, System};
 use std::alloc::Global;
@@ -28,8 +28,8 @@ impl Work {
                 if head == self.count {
                     return Ok(None);
                 }
-                let chains = Chains::new(alloc, task.vars, task.constraints)?;
-                Ok(self.drain(task, &chains, head))
+                let uses = Uses::new(alloc, task.vars, task.constraints)?;
+                Ok(self.drain(task, &uses, head))
             }
         }
     }

@@ -1,7 +1,6 @@
 //! Facts that constraints force from givens, and the parts that are left undecided.
 #![tactic(auto)]
 
-mod chains;
 mod closing;
 mod draining;
 mod facts;
@@ -10,13 +9,14 @@ mod laws;
 mod levels;
 mod parts;
 mod passing;
+mod uses;
 mod work;
 
-pub use chains::{Chains, Link};
 pub use closing::{close, givens_fit};
 pub use facts::{ClashAt, Closed, Fact, Facts, Reason};
 pub use laws::{facts_are_in_the_closure, further_facts_keep_the_rule};
 pub use parts::Part;
+pub use uses::Uses;
 
 #[cfg(test)]
 mod tests;

@@ -14,7 +14,7 @@ use Rattle.ff_propagate.specs.Closure.{Gives}
 use Rattle.ff_propagate.specs.Closing.{ClosesTo}
 use Rattle.ff_propagate.specs.Parts.{IsPart}
 use Rattle.ff_propagate.specs.Solutions.{solutions_of}
-use Rattle.ff_propagate.specs.Chained.{IsChained}
+use Rattle.ff_propagate.specs.Uses.{AreUses}
 use Rattle.ff_propagate.specs.Trees.{Tree, IsTree, visits, found}
 use Rattle.ff_propagate.proofs.Quiet.{IsQuiet, closure_quiet}
 use Rattle.ff_solver.specs.declared.state.Search.{Search}
@@ -32,7 +32,7 @@ pub record IsRoot (vars : ℕ) (cons : List Constraint) (fs : List (Option Fact)
   pub facts : s.facts ≡ fs
   pub part_is : s.part.vars ≡ part
   pub visited : s.visited ≡ 0
-  pub chains : IsChained vars cons s.chains
+  pub uses : AreUses vars cons s.uses
   pub next : s.path.next ≡ Some 0
   pub branches : s.path.branches.items ≡ []
   pub branches_room : vars ≤ vec_capacity s.path.branches
@@ -119,7 +119,7 @@ started vars cons gs fs part s fit board is root =
       search = record {
         path = root_path vars cons fs part s root;
         ready = subst (λ o. IsReady cons s.path.trail o) (sym root.next) (omega arith, ready);
-        chains = root.chains;
+        uses = root.uses;
         part = subst (λ vs. (j : ℕ) → j < length vs → slice_index vs j < vars) (sym root.part_is) within;
         some = subst (λ vs. 0 < length vs) (sym root.part_is) is.some;
       };

@@ -6,7 +6,7 @@ use Rattle.ff_tables.specs.declared.orders.Order.{Order}
 use Rattle.ff_tables.specs.declared.terms.Constraint.{Constraint}
 use Rattle.ff_tables.specs.Orders.{term_at}
 use Rattle.ff_tables.specs.Forces.{Knows}
-use Rattle.ff_propagate.specs.Chained.{Covers as Covered}
+use Rattle.ff_propagate.specs.Uses.{IsUse, IsFrom, IsIn}
 use Rattle.ff_tables.proofs.Agreeing.{forces_more}
 use Rattle.ff_solver.specs.declared.trail.Trail.{Trail}
 use Rattle.ff_solver.specs.Trails.{known, Grows, IsSilent, Rests, Ready}
@@ -46,52 +46,53 @@ keeps cons old new head con x h (inr quiet) = elim (scan
       | inr same ↦ inr (silent_same con (known old) (known new) same quiet)
     ]
 
--- the constraint has the variable v and is below k
-abbrev pub IsLeft : Constraint → ℕ → ℕ → ℕ → Type 0
-IsLeft con c v k = (c < k) × ((i : ℕ) × (i < length con.terms) × ((term_at con.terms i).var ≡ v))
-
 -- each constraint rests, or is left to be visited
-abbrev pub Almost : List Constraint → Trail → ℕ → ℕ → ℕ → Type 0
-Almost cons t head v k = (c : ℕ) (con : Constraint) → slice_get cons c ≡ Some con
-    → Rests t head con ⊎ IsLeft con c v k
+abbrev pub Almost : List Constraint → Trail → ℕ → List ℕ → ℕ → Type 0
+Almost cons t head list k = (c : ℕ) (con : Constraint) → slice_get cons c ≡ Some con
+    → Rests t head con ⊎ IsFrom list k c
 
-pub begins : (cons : List Constraint) (t : Trail) (head v k : ℕ) → slice_index t.vars.items head ≡ v
-    → Ready cons t head (length cons) → Covered cons (length cons) v k → Almost cons t (head + 1) v k
-begins cons t head v k here ready covers c con at = sort (ready c con (slice_get_within cons c con at) at)
+pub begins : (cons : List Constraint) (t : Trail) (head v : ℕ) (list : List ℕ) → slice_index t.vars.items head ≡ v
+    → Ready cons t head (length cons) → ((d : ℕ) → IsUse cons d v → IsIn list d) → Almost cons t (head + 1) list 0
+begins cons t head v list here ready each c con at = sort (ready c con (slice_get_within cons c con at) at)
   where
-    sort : Rests t head con → Rests t (head + 1) con ⊎ IsLeft con c v k
+    sort : Rests t head con → Rests t (head + 1) con ⊎ IsFrom list 0 c
     sort (inr q) = inl (inr q)
     sort (inl (i, j, a, b, l, e)) = elim (cases_eq i head) [
-      | inl s ↦ (let var : (term_at con.terms j).var ≡ v = sym e ∙ ap (slice_index t.vars.items) s ∙ here in
-          inr (covers c con j (slice_get_within cons c con at) at l var, (j, l, var)))
+      | inl s ↦ inr (each c (record {
+        con = con;
+        there = at;
+        place = j;
+        within = l;
+        var = sym e ∙ ap (slice_index t.vars.items) s ∙ here;
+      }))
       | inr ne ↦ inl (inl (i, j, omega (arith, a, ne), b, l, e))
     ]
 
 -- one constraint is visited
-pub visits : (cons : List Constraint) (old new : Trail) (head v k n : ℕ) → Grows cons old new
-    → head ≤ length old.vars.items → Almost cons old head v (n + 1)
+pub visits : (cons : List Constraint) (old new : Trail) (head k n : ℕ) (list : List ℕ) → Grows cons old new
+    → head ≤ length old.vars.items → slice_index list k ≡ n → Almost cons old head list k
     → ((con : Constraint) → slice_get cons n ≡ Some con → Rests new (length old.vars.items) con)
-    → Covered cons n v k → Almost cons new head v k
-visits cons old new head v k n x h almost here covers c con at = sort (almost c con at)
+    → Almost cons new head list (k + 1)
+visits cons old new head k n list x h is almost here c con at = sort (almost c con at)
   where
     lower : Rests new (length old.vars.items) con → Rests new head con
     lower (inl (i, j, a, b, l, e)) = inl (i, j, omega (arith, a, h), b, l, e)
     lower (inr q) = inr q
 
-    sort : Rests old head con ⊎ IsLeft con c v (n + 1) → Rests new head con ⊎ IsLeft con c v k
+    sort : Rests old head con ⊎ IsFrom list k c → Rests new head con ⊎ IsFrom list (k + 1) c
     sort (inl p) = inl (keeps cons old new head con x h p)
-    sort (inr (l, (i, b, e))) = elim (cases_eq c n) [
-      | inl s ↦ inl (lower (here con (ap (slice_get cons) (sym s) ∙ at)))
-      | inr ne ↦ inr (covers c con i (omega (arith, l, ne)) at b e, (i, b, e))
+    sort (inr (j, l, m, e)) = elim (cases_eq j k) [
+      | inl s ↦ inl (lower (here con (ap (slice_get cons) (sym is ∙ ap (slice_index list) (sym s) ∙ e) ∙ at)))
+      | inr ne ↦ inr (j, omega (arith, l, ne), m, e)
     ]
 
-pub ends : (cons : List Constraint) (t : Trail) (head v k : ℕ) → k ≤ 0 → Almost cons t head v k
-    → Ready cons t head (length cons)
-ends cons t head v k z almost c con l at = sort (almost c con at)
+pub ends : (cons : List Constraint) (t : Trail) (head k : ℕ) (list : List ℕ) → length list ≤ k
+    → Almost cons t head list k → Ready cons t head (length cons)
+ends cons t head k list z almost c con l at = sort (almost c con at)
   where
-    sort : Rests t head con ⊎ IsLeft con c v k → Rests t head con
+    sort : Rests t head con ⊎ IsFrom list k c → Rests t head con
     sort (inl p) = p
-    sort (inr (m, r)) = absurd (omega (arith, m, z))
+    sort (inr (j, a, b, e)) = absurd (omega (arith, a, b, z))
 
 pub same_con : {o : Option Constraint} {a b : Constraint} → o ≡ Some a → o ≡ Some b → a ≡ b
 same_con p q = cc

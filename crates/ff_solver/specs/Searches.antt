@@ -6,7 +6,7 @@ use Rattle.ff_propagate.specs.declared.facts.Fact.{Fact}
 use Rattle.ff_propagate.specs.Facts.{value_at}
 use Rattle.ff_propagate.specs.Trees.{Tree, IsTree, visits, found}
 use Rattle.ff_propagate.specs.Solutions.{solutions_of}
-use Rattle.ff_propagate.specs.Chained.{IsChained}
+use Rattle.ff_propagate.specs.Uses.{AreUses}
 use Rattle.ff_solver.specs.declared.state.Search.{Search}
 use Rattle.ff_solver.specs.declared.state.Advance.{Advance}
 use Rattle.ff_solver.specs.declared.state.Advance.TheVariants.{Found, Finished, Spent}
@@ -45,7 +45,7 @@ Advances cost turns before after steps Spent = IsSpent cost turns before after s
 pub record IsSearch (vars : ℕ) (cons : List Constraint) (s : Search) : Type 0 where
   pub path : IsPath vars cons s.path
   pub ready : IsReady cons s.path.trail s.path.next
-  pub chains : IsChained vars cons s.chains
+  pub uses : AreUses vars cons s.uses
   pub part : AreWithin vars s.part.vars
   pub some : 0 < length s.part.vars
 
@@ -85,7 +85,7 @@ pub record IsRun (cons : List Constraint) (value : ℕ → Option Order) (turns 
 -- a search at a node that is a solution
 pub record IsAtSolution (vars : ℕ) (cons : List Constraint) (s : Search) : Type 0 where
   pub path : IsPath vars cons s.path
-  pub chains : IsChained vars cons s.chains
+  pub uses : AreUses vars cons s.uses
   pub part : AreWithin vars s.part.vars
   pub some : 0 < length s.part.vars
   pub decided : AreDecided s.part.vars s.path.trail

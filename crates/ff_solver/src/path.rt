@@ -4,12 +4,10 @@ ghost use Rattle.ff_tables.specs.declared.orders.Order.{Order as OrderSpec};
 ghost use Rattle.ff_tables.specs.declared.orders.Order.TheVariants.{Below, Above};
 ghost use Rattle.ff_tables.specs.Forces.{Knows};
 ghost use Rattle.ff_propagate.specs.Trees.{Tree, IsTreeAt, visits};
-ghost use Rattle.ff_propagate.specs.Chained.{IsChained};
 ghost use Rattle.ff_solver.specs.Trails.{known, Ready};
 ghost use Rattle.ff_solver.specs.Paths.{IsPath, IsReady, ArePending, AreNext, AreLeft, IsAtNode, IsPassed, IsSolved, AreDecided, AreSilent, Nodes};
 
 use crate::trail::Trail;
-use ff_propagate::Chains;
 use ff_tables::{Order, System};
 
 /// The values at a node, the lengths that the trail had at the branches that are left, and the place of the trail from which on

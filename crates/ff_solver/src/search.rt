@@ -53,7 +53,7 @@ impl Search {
     {
         self.visited += 1;
         self.path
-            .visit(system, &self.chains, self.part.vars.as_slice(), head)
+            .visit(system, &self.uses, self.part.vars.as_slice(), head)
     }
 
     // Reads the solution, and goes to the last branch that is left.

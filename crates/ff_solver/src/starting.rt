@@ -9,7 +9,7 @@ ghost use Rattle.ff_solver.specs.Searches.{StandsAt, Starts};
 use crate::path::Path;
 use crate::state::Search;
 use crate::trail::{Trail, Values};
-use ff_propagate::{Chains, Facts, Part};
+use ff_propagate::{Facts, Part, Uses};
 use ff_tables::{NoMemory, Order};
 use ff_types::Case;
 use std::alloc::Global;
@@ -39,12 +39,12 @@ pub fn start(alloc: Global, case: &Case, facts: &Facts, part: &Part) -> Result<S
     let list = values_of(alloc, facts, system.vars)?;
     let vars = Vec::with_capacity(alloc, system.vars as usize)?;
     let branches = Vec::with_capacity(alloc, system.vars as usize)?;
-    let chains = Chains::new(alloc, system.vars, system.constraints.as_slice())?;
+    let uses = Uses::new(alloc, system.vars, system.constraints.as_slice())?;
     Ok(Search {
         facts: facts.copy(alloc)?,
         part: part.copy(alloc)?,
         visited: 0,
-        chains,
+        uses,
         path: Path {
             trail: Trail {
                 values: Values { list },

@@ -2,7 +2,7 @@
 ghost use Rattle.std.specs.Prelude.{◌*◌, ◌<◌, ◌^◌, length};
 
 use crate::path::Path;
-use ff_propagate::{Chains, Facts, Part};
+use ff_propagate::{Facts, Part, Uses};
 use ff_tables::{Items, Order};
 
 /// A search for the solutions of a part, at a node of the part's decision tree. Contracts see its facts and part, and how many
@@ -14,7 +14,7 @@ pub struct Search {
     pub(crate) visited: u64,
     // The turns of the visited nodes are a number of 64 bits.
     pub(crate) ghost counted: { length part.vars * visited < 2 ^ 64 },
-    pub(crate) chains: Chains,
+    pub(crate) uses: Uses,
     pub(crate) path: Path,
 }
 

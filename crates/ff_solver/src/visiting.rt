@@ -1,13 +1,13 @@
 //! A node is visited.
 ghost use Rattle.std.specs.Prelude.{◌≡◌, ℕ, ◌<◌, ◌≤◌, ◌^◌, IsTrue, false, length, None, Some, Option, slice_index};
 ghost use Rattle.ff_tables.specs.declared.orders.Order.{Order as OrderSpec};
-ghost use Rattle.ff_propagate.specs.Chained.{IsChained};
+ghost use Rattle.ff_propagate.specs.Uses.{AreUses};
 ghost use Rattle.ff_solver.specs.Trails.{known, Ready, IsTrail};
 ghost use Rattle.ff_solver.specs.Paths.{IsPath, IsReady, AreNext, IsPassed, IsSolved, AreDecided, AreWithin, FirstOpen, Nodes};
 
 use crate::path::Path;
 use crate::trail::Trail;
-use ff_propagate::Chains;
+use ff_propagate::Uses;
 use ff_tables::{Known, System};
 
 // The first variable of the part that has no value.
@@ -28,15 +28,9 @@ fn first_open(part: &[u32], trail: &Trail, vars: u32) -> Option<u32>
 impl Path {
     /// Closes the next node, and goes on from it: to the last branch that is left where a constraint is dead, to the first of two
     /// branches where a variable of the part is open. Whether it is a solution instead; the path then stays.
-    pub(crate) fn visit(
-        &mut self,
-        system: &System,
-        chains: &Chains,
-        part: &[u32],
-        head: u32,
-    ) -> bool
+    pub(crate) fn visit(&mut self, system: &System, uses: &Uses, part: &[u32], head: u32) -> bool
         requires few { length system.now.constraints < 2 ^ 32 }
-        requires chains { IsChained system.now.vars system.now.constraints chains.now }
+        requires uses { AreUses system.now.vars system.now.constraints uses.now }
         requires part { AreWithin system.now.vars part.now }
         requires path { IsPath system.now.vars system.now.constraints self.old }
         requires ready { IsReady system.now.constraints self.old.trail (Some head) }
@@ -48,7 +42,7 @@ impl Path {
         ensures solved { IsTrue result → (value : ℕ → Option OrderSpec) (nodes : Nodes) → AreNext system.now.constraints value part.now self.old nodes
             → IsSolved system.now.constraints value part.now self.new nodes }
     {
-        if !self.trail.close(system, chains, head as usize) {
+        if !self.trail.close(system, uses, head as usize) {
             self.backtrack(system);
             return false;
         }

@@ -1,7 +1,7 @@
 use Rattle.std.proofs.Common.{refl, arith, ap, subst, List}
 use Rattle.ff_tables.specs.declared.terms.Constraint.{Constraint}
 use Rattle.ff_propagate.specs.declared.parts.Part.{Part}
-use Rattle.ff_propagate.specs.Chained.{IsChained}
+use Rattle.ff_propagate.specs.Uses.{AreUses}
 use Rattle.ff_solver.proofs.Started.{started}
 use Rattle.ff_solver.proofs.starting.start.Goals as goal
 
@@ -13,7 +13,7 @@ returns-clause-stands c = started c.args.case.now.system.vars c.args.case.now.sy
       facts = c.in_ok-copy.ensures;
       part_is = ap (λ (p : Part). p.vars) c.in_ok-copy-2.ensures;
       visited = refl;
-      chains = subst (λ (cons : List Constraint). IsChained c.args.case.now.system.vars cons c.in_ok-chains.chains) c.as_slice.ensures c.in_ok-chains.ensures;
+      uses = subst (λ (cons : List Constraint). AreUses c.args.case.now.system.vars cons c.in_ok-uses.uses) c.as_slice.ensures c.in_ok-uses.ensures;
       next = refl;
       branches = c.in_ok-branches.ensures.items;
       branches_room = c.in_ok-branches.ensures.capacity;

@@ -1,55 +1,41 @@
-use Rattle.std.proofs.Common.{◌≡◌, ◌+◌, ◌-◌, ◌⊎◌, arith, subst, sym}
+use Rattle.std.proofs.Common.{◌⊎◌, ◌+◌, arith, subst, refl, slice_index}
 use Rattle.std.proofs.lemmas.Option.{slice_get-get_or, get_or_from_slice_get}
 use Rattle.ff_tables.specs.declared.terms.Constraint.{Constraint}
 use Rattle.ff_propagate.specs.Stands.{Waits, Quiet}
 use Rattle.ff_propagate.proofs.Keeps.{extends_refl, extends_trans}
-use Rattle.ff_propagate.proofs.Visits.{Almost, begins, visits, ends}
+use Rattle.ff_propagate.proofs.Visits.{begins, visits, ends}
 use Rattle.ff_propagate.proofs.work.Work.visit.Goals as goal
 
-pub loop-left-init : goal.loop-left-init
-loop-left-init c = (
+pub loop-k-init : goal.loop-k-init
+loop-k-init c = (
   c.requires.stand,
   extends_refl c.args.self.now,
-  c.last-left.ensures.within,
-  begins c.args.task.now.constraints.now c.args.self.now c.args.head c.args.var c.last-left.result.past
-      c.requires.var.1 c.requires.ready c.last-left.ensures.covers,
+  begins c.args.task.now.constraints.now c.args.self.now c.args.head c.args.var c.of-list.result.now
+      c.requires.var.1 c.requires.ready c.of-list.ensures.each,
 )
-
-pub examine-requires-clause-con : goal.examine-requires-clause-con
-examine-requires-clause-con c = slice_get-get_or c.args.task.now.constraints.now (c.loop-left.left.past - 1)
-    c.index-task-c.result (omega (arith, c.loop-left.invariant.2, c.loop-left-test.true))
-
-pub before-left-requires-clause-con : goal.before-left-requires-clause-con
-before-left-requires-clause-con c = slice_get-get_or c.args.task.now.constraints.now (c.loop-left.left.past - 1)
-    c.index-task-c.result (omega (arith, c.loop-left.invariant.2, c.loop-left-test.true))
 
 pub returns-then-not-examine-clause-passes : goal.returns-then-not-examine-clause-passes
 returns-then-not-examine-clause-passes c = (
   _,
-  slice_get-get_or c.args.task.now.constraints.now (c.loop-left.left.past - 1) c.index-task-c.result
-      (omega (arith, c.loop-left.invariant.2, c.loop-left-test.true)),
+  slice_get-get_or c.args.task.now.constraints.now (slice_index c.of-list.result.now c.loop-k.k) c.index-task-c.result
+      (c.of-list.ensures.below c.loop-k.k c.loop-k-test.true),
   c.examine.ensures.dead c.if-not-examine.true,
 )
 
-pub loop-left-preserved : goal.loop-left-preserved
-loop-left-preserved c =
-    let e : c.loop-left.left.past - 1 + 1 ≡ c.loop-left.left.past = omega (arith, c.loop-left-test.true) in
-    let cons = c.args.task.now.constraints.now in (
+pub loop-k-preserved : goal.loop-k-preserved
+loop-k-preserved c =
+    let cons = c.args.task.now.constraints.now in
+    let n = slice_index c.of-list.result.now c.loop-k.k in (
       c.examine.ensures.stand,
-      extends_trans c.args.self.now c.loop-left.self c.examine.new.self c.loop-left.invariant.1
-          c.examine.ensures.extends,
-      omega (arith, c.before-left.ensures.within, c.loop-left.invariant.2),
-      visits cons c.loop-left.self c.examine.new.self (c.args.head + 1) c.args.var c.before-left.result.past
-          (c.loop-left.left.past - 1) c.examine.ensures.extends (omega
-          (arith, c.requires.head, c.loop-left.invariant.1.count))
-          (subst (λ k. Almost cons c.loop-left.self (c.args.head + 1) c.args.var k) (sym e) c.loop-left.invariant.3)
-          (λ con at. subst (λ (d : Constraint). Waits c.examine.new.self c.loop-left.self.count d.terms
-          ⊎ Quiet c.examine.new.self d) (get_or_from_slice_get cons (c.loop-left.left.past - 1) con
-          c.index-task-c.result at)
-          (c.examine.ensures.rests c.if-not-examine.false))
-          c.before-left.ensures.covers,
+      extends_trans c.args.self.now c.loop-k.self c.examine.new.self c.loop-k.invariant.1 c.examine.ensures.extends,
+      visits cons c.loop-k.self c.examine.new.self (c.args.head + 1) c.loop-k.k n c.of-list.result.now
+          c.examine.ensures.extends (omega (arith, c.requires.head, c.loop-k.invariant.1.count)) refl
+          c.loop-k.invariant.2
+          (λ con at. subst (λ (d : Constraint). Waits c.examine.new.self c.loop-k.self.count d.terms
+          ⊎ Quiet c.examine.new.self d) (get_or_from_slice_get cons n con c.index-task-c.result at)
+          (c.examine.ensures.rests c.if-not-examine.false)),
     )
 
 pub returns-clause-passes : goal.returns-clause-passes
-returns-clause-passes c = ends c.args.task.now.constraints.now c.loop-left.self (c.args.head + 1) c.args.var
-    c.loop-left.left.past c.loop-left-test.false c.loop-left.invariant.3
+returns-clause-passes c = ends c.args.task.now.constraints.now c.loop-k.self (c.args.head + 1) c.loop-k.k
+    c.of-list.result.now c.loop-k-test.false c.loop-k.invariant.2
