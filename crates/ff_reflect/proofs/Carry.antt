@@ -21,7 +21,7 @@ use Rattle.ff_reflect.specs.declared.placed.Placed.{Placed}
 use Rattle.ff_reflect.specs.Images.{IsAt, IsImageOf}
 use Rattle.ff_reflect.specs.Sheets.{Paper, HasFaces}
 use Rattle.ff_reflect.specs.Trees.{first_meetings, faces_across, order_along, Grows}
-use Rattle.ff_reflect.specs.Puts.{IsFit, IsHinge}
+use Rattle.ff_reflect.specs.Puts.{IsFit, IsHinge, has_place}
 use Rattle.ff_reflect.specs.Standing.{Stands, IsReady, IsStanding}
 use Rattle.ff_reflect.proofs.Shapes.{image_at}
 use Rattle.ff_reflect.proofs.Firsts.{has_from_contains}
@@ -135,6 +135,8 @@ pub record IsCarriage (paper : Paper) (tree : List Meeting) (up : List Bool) (ca
   pub across : Contains (order_along tree) m.across
   pub first_at : IsAt s.scale (carried m.across (edge_at paper.edges m.edge).a) (point_at s.points.items (edge_at paper.edges m.edge).a)
   pub second_at : IsAt s.scale (carried m.across (edge_at paper.edges m.edge).b) (point_at s.points.items (edge_at paper.edges m.edge).b)
+  pub first_placed : has_place s (edge_at paper.edges m.edge).a ≡ true
+  pub second_placed : has_place s (edge_at paper.edges m.edge).b ≡ true
 
 pub carriage : (paper : Paper) (tree : List Meeting) (up : List Bool) (carried : ℕ → ℕ → Place) (k : ℕ) (m : Meeting) (i : ℕ) (s : Placed) → IsReady paper tree up
     → IsCarried paper.points paper.rings paper.edges (all_of paper (order_along tree)) up (order_along tree) carried
@@ -154,6 +156,8 @@ carriage paper tree up carried k m i s r so there h =
       across = order_closed paper (order_along tree) o m in_all;
       first_at = at_same s.scale _ _ _ (so.places m.face e.a) (so.agree_first parent.0 m parent.1) (h.at (m.face, e.a) (done e.a ends.0.0));
       second_at = at_same s.scale _ _ _ (so.places m.face e.b) (so.agree_second parent.0 m parent.1) (h.at (m.face, e.b) (done e.b ends.0.1));
+      first_placed = h.there (m.face, e.a) (done e.a ends.0.0);
+      second_placed = h.there (m.face, e.b) (done e.b ends.0.1);
     }
 
 -- the image that the code computes is the place where the face carries the vertex

@@ -31,7 +31,7 @@ use Rattle.ff_reflect.specs.declared.placed.Placed.{Placed}
 use Rattle.ff_reflect.specs.Images.{IsAt, IsImageOf}
 use Rattle.ff_reflect.specs.Sheets.{Paper, HasFaces}
 use Rattle.ff_reflect.specs.Trees.{faces_across, order_along}
-use Rattle.ff_reflect.specs.Puts.{IsAdded, Puts, Refuses, Carries, StopsCarrying, has_place}
+use Rattle.ff_reflect.specs.Puts.{IsAdded, IsSame, IsEnd, Puts, Refuses, Moves, StopsCarrying, has_place}
 use Rattle.ff_reflect.specs.Standing.{Stands, IsReady, IsStanding}
 use Rattle.ff_reflect.proofs.Orders.{all_of}
 use Rattle.ff_reflect.proofs.Foldings.{at_same}
@@ -164,6 +164,26 @@ carry_put paper tree up k i m old new image r there l h is puts =
     by (inl (flag, at, same)) = stands_same (length paper.points) h.carried _ old new m.across v h.stands same flag (here_at old.scale (h.carried m.across v) image _ fit here at)
     by (inr (flag, a)) = stands_added (length paper.points) h.carried _ old new m.across v image h.stands a flag (corner_there paper r.has_faces m.across v in_ring) here (small a flag)
 
+-- an end of the edge stays where it is
+carry_end : (paper : Paper) (tree : List Meeting) (up : List Bool) (k i : ℕ) (m : Meeting) (old new : Placed) → IsReady paper tree up → slice_get tree k ≡ Some m
+    → i < length (ring_at paper.rings m.across) → IsStanding paper tree up (done_to paper tree k m.across i) old
+    → IsEnd (edge_at paper.edges m.edge) (corner (ring_at paper.rings m.across) i) → IsSame old new → IsStanding paper tree up (done_to paper tree k m.across (i + 1)) new
+carry_end paper tree up k i m old new r there l h end same =
+    subst (λ ps. IsStanding paper tree up ps new) (sym (done_more paper tree k m.across i l)) (record { carried = h.carried; so = h.so; stands = by end })
+  where
+    v : ℕ
+    v = corner (ring_at paper.rings m.across) i
+
+    c : IsCarriage paper tree up h.carried m old
+    c = carriage paper tree up h.carried k m i old r h.so there h.stands
+
+    stays : (u : ℕ) → v ≡ u → has_place old u ≡ true → IsAt old.scale (h.carried m.across u) (point_at old.points.items u) → Stands (length paper.points) h.carried (done_to paper tree k m.across i ++ (m.across, v) ∷ []) new
+    stays u e flag at = stands_same (length paper.points) h.carried _ old new m.across v h.stands same (ap (has_place old) e ∙ flag) (subst (λ w. IsAt old.scale (h.carried m.across w) (point_at old.points.items w)) (sym e) at)
+
+    by : IsEnd (edge_at paper.edges m.edge) v → Stands (length paper.points) h.carried (done_to paper tree k m.across i ++ (m.across, v) ∷ []) new
+    by (inl e) = stays _ e c.first_placed c.first_at
+    by (inr e) = stays _ e c.second_placed c.second_at
+
 pub carry_stop : (paper : Paper) (tree : List Meeting) (up : List Bool) (k i : ℕ) (m : Meeting) (old : Placed) (image : Image) → IsReady paper tree up → slice_get tree k ≡ Some m
     → i < length (ring_at paper.rings m.across) → IsStanding paper tree up (done_to paper tree k m.across i) old
     → IsImageOf (hinge_of paper up m old.points.items) (point_at paper.points (corner (ring_at paper.rings m.across) i)) image
@@ -229,11 +249,18 @@ pub record HasRead (paper : Paper) (up : List Bool) (m : Meeting) (ring : List �
 
 pub carry_more : (paper : Paper) (tree : List Meeting) (up : List Bool) (k i : ℕ) (m : Meeting) (old new : Placed) (ring : List ℕ) (ends : EdgeEnds) (flag : Bool) → IsReady paper tree up → slice_get tree k ≡ Some m
     → HasRead paper up m ring ends flag → i < length ring → IsStanding paper tree up (done_to paper tree k m.across i) old
-    → Carries paper.points ends flag (slice_index_or ring i 0) old new → IsStanding paper tree up (done_to paper tree k m.across (i + 1)) new
-carry_more paper tree up k i m old new ring ends flag r there read l h c =
-    let d = subst (λ b. Carries paper.points (edge_at paper.edges m.edge) b (slice_index_or (ring_at paper.rings m.across) i 0) old new) read.flag_is
-    (subst (λ e. Carries paper.points e flag (slice_index_or (ring_at paper.rings m.across) i 0) old new) read.ends_are (subst (λ vs. Carries paper.points ends flag (slice_index_or vs i 0) old new) read.ring_is c)) in
-    carry_put paper tree up k i m old new d.0 r there (subst (λ vs. i < length vs) read.ring_is l) h d.1 d.2
+    → Moves paper.points ends flag (slice_index_or ring i 0) old new → IsStanding paper tree up (done_to paper tree k m.across (i + 1)) new
+carry_more paper tree up k i m old new ring ends flag r there read l h c = by d where
+  d : Moves paper.points (edge_at paper.edges m.edge) (is_up up m.across) (slice_index_or (ring_at paper.rings m.across) i 0) old new
+  d = subst (λ b. Moves paper.points (edge_at paper.edges m.edge) b (slice_index_or (ring_at paper.rings m.across) i 0) old new) read.flag_is
+      (subst (λ e. Moves paper.points e flag (slice_index_or (ring_at paper.rings m.across) i 0) old new) read.ends_are (subst (λ vs. Moves paper.points ends flag (slice_index_or vs i 0) old new) read.ring_is c))
+
+  within : i < length (ring_at paper.rings m.across)
+  within = subst (λ vs. i < length vs) read.ring_is l
+
+  by : Moves paper.points (edge_at paper.edges m.edge) (is_up up m.across) (slice_index_or (ring_at paper.rings m.across) i 0) old new → IsStanding paper tree up (done_to paper tree k m.across (i + 1)) new
+  by (inl (end, same)) = carry_end paper tree up k i m old new r there within h end same
+  by (inr (image, is, puts)) = carry_put paper tree up k i m old new image r there within h is puts
 
 pub carry_refused : (paper : Paper) (tree : List Meeting) (up : List Bool) (k i : ℕ) (m : Meeting) (old : Placed) (ring : List ℕ) (ends : EdgeEnds) (flag : Bool) → IsReady paper tree up → slice_get tree k ≡ Some m
     → HasRead paper up m ring ends flag → i < length ring → IsStanding paper tree up (done_to paper tree k m.across i) old → (refusal : Refusal)

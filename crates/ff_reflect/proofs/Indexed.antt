@@ -1,47 +1,30 @@
--- A map of the edges by their vertices: one edge more, and what it finds.
-use Rattle.std.proofs.Common.{◌≡◌, ◌∙◌, ℕ, ◌+◌, ◌<◌, ◌^◌, List, length, true, false, cond, arith, refl, sym, ap, subst, ◌⊎◌, inl, inr, Option, Some, None, IsTrue, slice_get}
-use Rattle.std.proofs.lemmas.Option.{slice_get_within, get_or_from_slice_get}
+-- Chains of edges: none yet, and what is found in them.
+use Rattle.std.proofs.Common.{◌≡◌, ◌≢◌, ◌∙◌, ℕ, suc, ◌+◌, ◌*◌, ◌%◌, ◌<◌, ◌≤◌, List, length, true, false, arith, refl, sym, ap, subst, ◌⊎◌, inl, inr, Option, Some, None, IsTrue, slice_index_or, replicate}
+use Rattle.std.proofs.lemmas.List.{get_or-replicate, length-replicate, get_or_read}
 use Rattle.std.proofs.lemmas.Bool.{false≢true}
-use Rattle.std.proofs.lemmas.Map.Lookups.{exact_unsigned}
 use Rattle.std.proofs.lemmas.List.Quantifiers.{position-Some}
 use Rattle.std.proofs.Math.Nat.{min_comm, max_comm}
 use Rattle.std.specs.Prelude.{position}
-use Rattle.std.specs.BTreeMap.{BTreeMap, is_at, get}
-use Rattle.std.specs.Cmp.{nat_cmp_is}
-use Rattle.std.specs.Ordering.{is_eq, nat_cmp}
-use Rattle.std.specs.declared.cmp.Ordering.{Ordering}
-use Rattle.std.specs.declared.cmp.Ordering.TheVariants.{Less, Equal, Greater}
 use Rattle.ff_types.specs.declared.patterns.EdgeEnds.{EdgeEnds}
 use Rattle.ff_types.specs.Patterns.{edge_at}
 use Rattle.ff_types.specs.Drawings.{joins}
-use Rattle.ff_reflect.specs.Index.{pair_key, AreOnce, AreSmall, Indexes}
-use Rattle.ff_reflect.proofs.Cases.{by_same, by_test}
+use Rattle.ff_reflect.specs.declared.index.Index.{Index}
+use Rattle.ff_reflect.specs.declared.sizes.TheConstants.{CHAINS}
+use Rattle.ff_reflect.specs.Index.{chain_between, chain_at, AreOnce, IsLast, Indexes}
+use Rattle.ff_reflect.proofs.Cases.{by_below, by_same, by_test}
 use Rattle.ff_reflect.proofs.Meetings.{position_is}
 use Rattle.ff_reflect.proofs.Across.{ends_of, joins_from}
 
--- ---- keys
+-- ---- edges that join two vertices
 
-abbrev SameTwo : ℕ → ℕ → ℕ → ℕ → Type 0
-SameTwo a b c d = ((a ≡ c) × (b ≡ d)) ⊎ ((a ≡ d) × (b ≡ c))
+-- they are in the chain of the two
+chain_same : (u v : ℕ) (x : EdgeEnds) → IsTrue (joins u v x) → chain_between x.a x.b ≡ chain_between u v
+chain_same u v x j = by (ends_of u v x j) where
+  by : ((x.a ≡ u) × (x.b ≡ v)) ⊎ ((x.a ≡ v) × (x.b ≡ u)) → chain_between x.a x.b ≡ chain_between u v
+  by (inl s) = rw (s.0, s.1) refl
+  by (inr s) = rw (s.0, s.1, min_comm v u, max_comm v u) refl
 
-key_same : (a b c d : ℕ) → SameTwo a b c d → pair_key a b ≡ pair_key c d
-key_same a b c d (inl s) = rw (s.0, s.1) refl
-key_same a b c d (inr s) = rw (s.0, s.1, min_comm d c, max_comm d c) refl
-
-key_apart : (a b c d : ℕ) → a < 2 ^ 32 → b < 2 ^ 32 → c < 2 ^ 32 → d < 2 ^ 32 → pair_key a b ≡ pair_key c d → SameTwo a b c d
-key_apart a b c d la lb lc ld e = grind (arith, la, lb, lc, ld, e)
-
-eq_of : (o : Ordering) → is_eq o ≡ true → o ≡ Equal
-eq_of Less h = absurd (false≢true h)
-eq_of Equal h = refl
-eq_of Greater h = absurd (false≢true h)
-
-is_itself : (q : ℕ) → is_at (nat_cmp q) q ≡ true
-is_itself q = ap is_eq (sym (nat_cmp_is q q Equal refl))
-
--- ---- one edge more
-
--- one edge at most joins two vertices
+-- there is one at most
 joins_once : (edges : List EdgeEnds) → AreOnce edges → (u v e k : ℕ) → e < length edges → IsTrue (joins u v (edge_at edges e)) → k < length edges → IsTrue (joins u v (edge_at edges k)) → e ≡ k
 joins_once edges once u v e k l j m i =
     once e k l m (joins_from (edge_at edges e).a (edge_at edges e).b (edge_at edges k) (both (ends_of u v (edge_at edges e) j) (ends_of u v (edge_at edges k) i)))
@@ -52,59 +35,91 @@ joins_once edges once u v e k l j m i =
     both (inr p) (inl q) = inr (q.0 ∙ sym p.1, q.1 ∙ sym p.0)
     both (inr p) (inr q) = inl (q.0 ∙ sym p.0, q.1 ∙ sym p.1)
 
-pub indexes_more : (edges : List EdgeEnds) (n : ℕ) (old new : BTreeMap ℕ ℕ) → AreOnce edges → Indexes edges n old → n < length edges
-    → (edge_at edges n).a < 2 ^ 32 → (edge_at edges n).b < 2 ^ 32
-    → ((q : ℕ) → get nat_cmp new q ≡ cond (is_at (nat_cmp (pair_key (edge_at edges n).a (edge_at edges n).b)) q) (Some n) (get nat_cmp old q))
-    → Indexes edges (n + 1) new
-indexes_more edges n old new once h l la lb put = record { found = found; only = only } where
-  x : EdgeEnds
-  x = edge_at edges n
+-- ---- no edges yet
 
-  found : (u v k : ℕ) → u < 2 ^ 32 → v < 2 ^ 32 → k < n + 1 → IsTrue (joins u v (edge_at edges k)) → get nat_cmp new (pair_key u v) ≡ Some k
-  found u v k lu lv lk j = by_test (is_at (nat_cmp (pair_key x.a x.b)) (pair_key u v))
-      (λ t. let same = key_apart x.a x.b u v la lb lu lv (exact_unsigned _ _ (eq_of _ t)) in
-      let e : n ≡ k = joins_once edges once u v n k l (joins_from u v x same) (omega (arith, lk, l)) j in
-      put (pair_key u v) ∙ ap (λ b. cond b (Some n) (get nat_cmp old (pair_key u v))) t ∙ ap Some e)
-      (λ t. put (pair_key u v) ∙ ap (λ b. cond b (Some n) (get nat_cmp old (pair_key u v))) t ∙ h.found u v k lu lv (less t) j)
-    where
-      less : is_at (nat_cmp (pair_key x.a x.b)) (pair_key u v) ≡ false → k < n
-      less t = by_same k n
-          (λ e. let ends = ends_of u v (edge_at edges k) j in
-          let s = key_same x.a x.b u v (subst (λ i. ((edge_at edges i).a ≡ u) × ((edge_at edges i).b ≡ v) ⊎ ((edge_at edges i).a ≡ v) × ((edge_at edges i).b ≡ u)) e ends) in
-          absurd (false≢true (sym t ∙ ap (λ q. is_at (nat_cmp (pair_key x.a x.b)) q) (sym s) ∙ is_itself (pair_key x.a x.b))))
-          (λ f. omega (arith, lk, f))
+-- what holds of no number holds of `None` alone
+pub is_none : (P : Option ℕ → Type 0) → ((n : ℕ) → P (Some n) → ⊥) → (o : Option ℕ) → P o → o ≡ None
+is_none P not None p = refl
+is_none P not (Some n) p = absurd (not n p)
 
-  only : (u v k : ℕ) → u < 2 ^ 32 → v < 2 ^ 32 → get nat_cmp new (pair_key u v) ≡ Some k → (k < n + 1) × IsTrue (joins u v (edge_at edges k))
-  only u v k lu lv e = by_test (is_at (nat_cmp (pair_key x.a x.b)) (pair_key u v))
-      (λ t. let same = key_apart x.a x.b u v la lb lu lv (exact_unsigned _ _ (eq_of _ t)) in
-      let f : Some n ≡ Some k = sym (put (pair_key u v) ∙ ap (λ b. cond b (Some n) (get nat_cmp old (pair_key u v))) t) ∙ e in
-      let i : n ≡ k = cc in
-      (omega (arith, i), subst (λ m. IsTrue (joins u v (edge_at edges m))) i (joins_from u v x same)))
-      (λ t. let r = h.only u v k lu lv (sym (put (pair_key u v) ∙ ap (λ b. cond b (Some n) (get nat_cmp old (pair_key u v))) t) ∙ e) in
-      let m = r.0 in (omega (arith, m), r.1))
+pub indexes_none : (edges : List EdgeEnds) (index : Index) → index.last.items ≡ replicate CHAINS None → index.before.items ≡ replicate (length edges) None → Indexes edges 0 index
+indexes_none edges index l b = record {
+  chains = ap length l ∙ length-replicate CHAINS none;
+  wide = ap length b ∙ length-replicate (length edges) none;
+  lasts = λ chain s. subst (λ (os : List (Option ℕ)). IsLast edges 0 chain (slice_index_or os chain none)) (sym l) (subst (IsLast edges 0 chain) (sym (get_or-replicate CHAINS chain none none s)) (λ k i. absurd (omega (arith, i))));
+  befores = λ e i. absurd (omega (arith, i));
+}
+  where
+    none : Option ℕ
+    none = None
+
+-- ---- an edge is looked for
+
+-- what is left of the chain, from an edge on back: no edge from m on joins the two
+pub record IsAhead (edges : List EdgeEnds) (u v : ℕ) (at : Option ℕ) : Type 0 where
+  pub m : ℕ
+  pub within : m ≤ length edges
+  pub last : IsLast edges m (chain_between u v) at
+  pub none : (k : ℕ) → m ≤ k → k < length edges → IsTrue (joins u v (edge_at edges k)) → ⊥
+
+pub all_ahead : (edges : List EdgeEnds) (index : Index) (u v chain : ℕ) (o : Option ℕ) → Indexes edges (length edges) index → chain ≡ chain_between u v → chain < CHAINS → o ≡ slice_index_or index.last.items chain o
+    → IsAhead edges u v o
+all_ahead edges index u v chain o h c s e = record {
+  m = length edges;
+  within = omega arith;
+  last = subst (λ q. IsLast edges (length edges) q o) c
+      (subst (IsLast edges (length edges) chain) (sym (get_or_read index.last.items chain o (let w = h.chains in omega (arith, w, s)) e None)) (h.lasts chain s));
+  none = λ k l m j. absurd (omega (arith, l, m));
+}
+
+-- how many edges may be left
+abbrev pub room : Option ℕ → ℕ
+room None = 0
+room (Some e) = suc e
+
+room_less : (edges : List EdgeEnds) (e chain : ℕ) (o : Option ℕ) → IsLast edges e chain o → room o < room (Some e)
+room_less edges e chain None h = omega arith
+room_less edges e chain (Some k) h = let l = h.0 in omega (arith, l)
+
+-- between the edge and m none is in the chain
+none_after : (edges : List EdgeEnds) (u v e : ℕ) → (a : IsAhead edges u v (Some e)) → (k : ℕ) → e < k → k < length edges → IsTrue (joins u v (edge_at edges k)) → ⊥
+none_after edges u v e a k l m j = let h = a.last in by_below k a.m (λ b. h.2 k l b (chain_same u v (edge_at edges k) j)) (λ b. a.none k b m j)
+
+pub fewer_ahead : (edges : List EdgeEnds) (index : Index) (u v e : ℕ) (o : Option ℕ) → Indexes edges (length edges) index → IsAhead edges u v (Some e) → joins u v (edge_at edges e) ≡ false → o ≡ slice_index_or index.before.items e o
+    → IsAhead edges u v o × (room o < room (Some e))
+fewer_ahead edges index u v e o h a not r = (
+  record {
+    m = e;
+    within = omega (arith, l);
+    last = subst (λ chain. IsLast edges e chain o) s.1 last;
+    none = λ k i m j. by_same k e (λ q. false≢true (sym not ∙ ap (λ n. joins u v (edge_at edges n)) (sym q) ∙ j)) (λ d. none_after edges u v e a k (omega (arith, i, d)) m j);
+  },
+  room_less edges e (chain_at edges e) o last,
+)
+  where
+    s : IsLast edges a.m (chain_between u v) (Some e)
+    s = a.last
+
+    l : e < length edges
+    l = let w = a.within in let i = s.0 in omega (arith, i, w)
+
+    last : IsLast edges e (chain_at edges e) o
+    last = subst (IsLast edges e (chain_at edges e)) (sym (get_or_read index.before.items e o (let w = h.wide in omega (arith, w, l)) r None)) (h.befores e l)
 
 -- what is found is the first edge that joins them
-pub index_finds : (edges : List EdgeEnds) (index : BTreeMap ℕ ℕ) → AreOnce edges → Indexes edges (length edges) index → (u v : ℕ) → u < 2 ^ 32 → v < 2 ^ 32
-    → get nat_cmp index (pair_key u v) ≡ position (joins u v) edges
-index_finds edges index once h u v lu lv = by (get nat_cmp index (pair_key u v)) refl (position (joins u v) edges) refl where
-  by : (o : Option ℕ) → get nat_cmp index (pair_key u v) ≡ o → (q : Option ℕ) → position (joins u v) edges ≡ q → o ≡ q
-  by None e None f = refl
-  by None e (Some k) f =
-      let p = position-Some (joins u v) edges k (record { a = 0; b = 0 }) f in
-      sym e ∙ h.found u v k lu lv p.0 p.1
-  by (Some k) e q f =
-      let p = h.only u v k lu lv e in
-      sym (position_is (joins u v) edges k (record { a = 0; b = 0 }) p.0 p.1 (before k p.0 p.1)) ∙ f
-    where
-      before : (k : ℕ) → k < length edges → IsTrue (joins u v (edge_at edges k)) → (j : ℕ) → j < k → joins u v (edge_at edges j) ≡ false
-      before k l t j m = by_test (joins u v (edge_at edges j)) (λ s. let e = joins_once edges once u v j k (omega (arith, m, l)) s l t in absurd (omega (arith, e, m))) (λ s. s)
+pub found : (edges : List EdgeEnds) (u v e : ℕ) → AreOnce edges → IsAhead edges u v (Some e) → IsTrue (joins u v (edge_at edges e)) → Some e ≡ position (joins u v) edges
+found edges u v e once a j = sym (position_is (joins u v) edges e (record { a = 0; b = 0 }) l j before) where
+  l : e < length edges
+  l = let w = a.within in let s = a.last in let i = s.0 in omega (arith, i, w)
 
--- as the code adds it
-pub indexes_added : (edges : List EdgeEnds) (n : ℕ) (old new : BTreeMap ℕ ℕ) (ends : EdgeEnds) (key : ℕ) → AreOnce edges → AreSmall edges → Indexes edges n old
-    → slice_get edges n ≡ Some ends → key ≡ pair_key ends.a ends.b
-    → ((q : ℕ) → get nat_cmp new q ≡ cond (is_at (nat_cmp key) q) (Some n) (get nat_cmp old q)) → Indexes edges (n + 1) new
-indexes_added edges n old new ends key once small h there k put =
-    let l = slice_get_within edges n ends there in
-    let x = get_or_from_slice_get edges n ends (record { a = 0; b = 0 }) there in
-    let s = small n l in
-    indexes_more edges n old new once h l s.0 s.1 (λ q. put q ∙ ap (λ m. cond (is_at (nat_cmp m) q) (Some n) (get nat_cmp old q)) (k ∙ ap (λ (z : EdgeEnds). pair_key z.a z.b) (sym x)))
+  before : (k : ℕ) → k < e → joins u v (edge_at edges k) ≡ false
+  before k m = by_test (joins u v (edge_at edges k)) (λ t. let q = joins_once edges once u v k e (omega (arith, m, l)) t l j in absurd (omega (arith, q, m))) (λ t. t)
+
+-- at the end of the chain there is none
+pub not_found : (edges : List EdgeEnds) (u v : ℕ) → IsAhead edges u v None → None ≡ position (joins u v) edges
+not_found edges u v a = by (position (joins u v) edges) refl where
+  by : (o : Option ℕ) → position (joins u v) edges ≡ o → None ≡ o
+  by None e = refl
+  by (Some k) e =
+      let p = position-Some (joins u v) edges k (record { a = 0; b = 0 }) e in
+      absurd (by_below k a.m (λ l. a.last k l (chain_same u v (edge_at edges k) p.1)) (λ l. a.none k l p.0 p.1))

@@ -1,7 +1,10 @@
 -- Points that grow one after the other, and one point more.
-use Rattle.std.proofs.Common.{◌≡◌, ◌∙◌, ℕ, ◌+◌, ◌<◌, ◌≤◌, List, length, true, arith, sym, ap, subst, slice_set, ℤ, ◌*ℤ◌}
+use Rattle.std.proofs.Common.{◌≡◌, ◌∙◌, ℕ, ◌+◌, ◌<◌, ◌≤◌, List, length, true, arith, sym, ap, subst, slice_set, ℤ, pos, ◌*ℤ◌, to_z, of_z}
 use Rattle.std.proofs.Common.{Vec, Global, vec_len}
-use lib.IntN.{*ℤ-zero}
+use lib.IntN.{*ℤ-zero, *ℤ_comm}
+use native.Mathlib.Nat.{eq-one_of_dvd-one}
+use mir.Syntax.{w128}
+use Rattle.std.proofs.lemmas.Int.{ints}
 use Rattle.std.proofs.lemmas.List.{length-set, get_or-set_same, get_or-set_other}
 use Rattle.ff_whole.specs.declared.points.Pt.{Pt}
 use Rattle.ff_whole.specs.Points.{origin, IsNear}
@@ -10,7 +13,8 @@ use Rattle.ff_types.specs.Foldings.{scaled}
 use Rattle.ff_whole.specs.declared.places.Place.{Place}
 use Rattle.ff_whole.specs.Sizes.{IsBelow}
 use Rattle.ff_whole.specs.Meeting.{IsReduced}
-use Rattle.ff_whole.proofs.Bounds.{below_factor}
+use Rattle.ff_whole.proofs.Bounds.{read, below_factor}
+use Rattle.ff_whole.proofs.Laws.{one-*ℤ}
 use Rattle.ff_reflect.specs.declared.image.Image.{Image}
 use Rattle.ff_reflect.specs.declared.placed.Placed.{Placed}
 use Rattle.ff_reflect.specs.declared.sizes.TheConstants.{LENGTH_SIZE, IMAGE_SIZE}
@@ -51,16 +55,35 @@ pub record IsLow (image : Image) (place : Place) : Type 0 where
   pub y_below : IsBelow IMAGE_SIZE place.y
   pub w_below : IsBelow LENGTH_SIZE place.w
 
-pub low_of : (image : Image) (x y n : ℤ) (place : Place) → IsFit image → x ≡ image.x → y ≡ image.y → n ≡ image.n → IsReduced x y n place → IsLow image place
-low_of image x y n place fit ex ey en r =
-    let by = r.by in
-    let l : IsReduced image.x image.y image.n place = subst (λ z. IsReduced image.x image.y z place) en (subst (λ z. IsReduced image.x z n place) ey (subst (λ z. IsReduced z y n place) ex r)) in
-    record {
-      lowest = l;
-      x_below = below_factor IMAGE_SIZE l.by place.x l.by_positive (subst (IsBelow IMAGE_SIZE) l.x_is fit.x_below);
-      y_below = below_factor IMAGE_SIZE l.by place.y l.by_positive (subst (IsBelow IMAGE_SIZE) l.y_is fit.y_below);
-      w_below = below_factor LENGTH_SIZE l.by place.w l.by_positive (subst (IsBelow LENGTH_SIZE) l.w_is fit.n_below);
-    }
+pub low_of : (image : Image) (place : Place) → IsFit image → IsReduced image.x image.y image.n place → IsLow image place
+low_of image place fit l = record {
+  lowest = l;
+  x_below = below_factor IMAGE_SIZE l.by place.x l.by_positive (subst (IsBelow IMAGE_SIZE) l.x_is fit.x_below);
+  y_below = below_factor IMAGE_SIZE l.by place.y l.by_positive (subst (IsBelow IMAGE_SIZE) l.y_is fit.y_below);
+  w_below = below_factor LENGTH_SIZE l.by place.w l.by_positive (subst (IsBelow LENGTH_SIZE) l.w_is fit.n_below);
+}
+
+-- the numbers as the code reads them
+pub low_read : (image : Image) (x y n : ℤ) (place : Place) → x ≡ image.x → y ≡ image.y → n ≡ image.n → IsReduced x y n place → IsReduced image.x image.y image.n place
+low_read image x y n place ex ey en r = subst (λ z. IsReduced image.x image.y z place) en (subst (λ z. IsReduced image.x z n place) ey (subst (λ z. IsReduced z y n place) ex r))
+
+-- an image that is whole is in lowest terms already
+pub low_whole : (image : Image) (x y n p q : ℤ) → IsFit image → x ≡ image.x → y ≡ image.y → n ≡ image.n → x ≡ n *ℤ p → y ≡ n *ℤ q
+    → IsReduced image.x image.y image.n (record { x = to_z w128 (of_z w128 p); y = to_z w128 (of_z w128 q); w = pos 1 })
+low_whole image x y n p q fit ex ey en ep eq = record {
+  by = image.n;
+  by_positive = fit.positive;
+  x_is = is x image.x p fit.x_below ex ep;
+  y_is = is y image.y q fit.y_below ey eq;
+  w_is = sym (*ℤ_comm image.n (pos 1) ∙ one-*ℤ image.n);
+  positive = omega (arith, ints);
+  lowest = λ d a b e. eq-one_of_dvd-one e;
+}
+  where
+    is : (x z p : ℤ) → IsBelow IMAGE_SIZE z → x ≡ z → x ≡ n *ℤ p → z ≡ image.n *ℤ to_z w128 (of_z w128 p)
+    is x z p below e f =
+        let times : z ≡ image.n *ℤ p = sym e ∙ f ∙ ap (λ k. k *ℤ p) en in
+        times ∙ ap (λ k. image.n *ℤ k) (sym (read w128 (below_factor IMAGE_SIZE image.n p fit.positive (subst (IsBelow IMAGE_SIZE) times below)) tt).is)
 
 -- ---- one point more
 

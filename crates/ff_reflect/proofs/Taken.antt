@@ -120,9 +120,13 @@ to_next paper met tree seen place face w h l e n =
 pub tree_orders : (paper : Paper) (met tree : List Meeting) → IsTree paper met tree → IsPlacingOrder paper.rings paper.edges paper.sides (order_along tree)
 tree_orders paper met tree t = ap (λ xs. 0 ∷ xs) (ap faces_across t.first ∙ across_firsts (0 ∷ []) met ∙ ap (λ ms. firsts (0 ∷ []) (faces_across ms)) t.all)
 
+-- the face at a place of the order is in it, and so it is there
+pub in_order : (tree : List Meeting) (place face : ℕ) → place < length (order_along tree) → face ≡ slice_index (order_along tree) place → Contains (order_along tree) face
+in_order tree place face l e = subst (Contains (order_along tree)) (sym e) (Contains-get_or (order_along tree) place 0 l)
+
 pub take_there : (paper : Paper) (met tree : List Meeting) (seen : List Bool) (place face : ℕ) → IsWalkTo paper met tree seen place → place < length (order_along tree)
     → face ≡ slice_index (order_along tree) place → face < length paper.rings
-take_there paper met tree seen place face h l e = let w = h.walked in w.there face (subst (Contains (order_along tree)) (sym e) (Contains-get_or (order_along tree) place 0 l))
+take_there paper met tree seen place face h l e = let w = h.walked in w.there face (in_order tree place face l e)
 
 pub within_order : (tree : List CodeMeeting) (place : ℕ) → place ≤ length tree → place < length (order_along (met_of tree))
 within_order tree place h = let a = length-map tree meeting_of in let b = length-map (met_of tree) (λ (m : Meeting). m.across) in omega (arith, a, b, h)

@@ -107,6 +107,13 @@ Carries points ends up v old new = (image : Image) × IsImageOf (hinge_at points
 abbrev pub StopsCarrying : List Pt → EdgeEnds → Bool → ℕ → Placed → Refusal → Type 0
 StopsCarrying points ends up v old r = (image : Image) × IsImageOf (hinge_at points ends up old.points.items) (point_at points v) image × Refuses v image old r
 
+abbrev pub IsEnd : EdgeEnds → ℕ → Type 0
+IsEnd ends v = (v ≡ ends.a) ⊎ (v ≡ ends.b)
+
+-- an end of the hinge stays, and any other vertex goes where the hinge carries it
+abbrev pub Moves : List Pt → EdgeEnds → Bool → ℕ → Placed → Placed → Type 0
+Moves points ends up v old new = (IsEnd ends v × IsSame old new) ⊎ Carries points ends up v old new
+
 -- these vertices lie where they were drawn, at the scale 1
 pub record IsLaid (points : List Pt) (front : List ℕ) (s : Placed) : Type 0 where
   pub scale : s.scale ≡ pos 1

@@ -1,12 +1,14 @@
 //! Where a face's vertex goes, from where the ends of one of its edges go.
-ghost use Rattle.std.specs.Prelude.{◌≡◌, ◌+ℤ◌, ◌-ℤ◌, ◌*ℤ◌};
+ghost use Rattle.std.specs.Prelude.{◌≡◌, pos, ◌+ℤ◌, ◌-ℤ◌, ◌*ℤ◌, ◌<ℤ◌, IfSome};
 ghost use Rattle.ff_whole.specs.Sizes.{IsBelow};
 ghost use Rattle.ff_whole.specs.Points.{IsNear, turn};
+ghost use Rattle.ff_whole.specs.Meeting.{IsReduced};
 ghost use Rattle.ff_types.specs.Foldings.{signed, spread};
 ghost use Rattle.ff_reflect.specs.Images.{IsImageOf};
+ghost use Rattle.ff_reflect.specs.Puts.{IsFit};
 
 use crate::sizes::{IMAGE_SIZE, LENGTH_SIZE};
-use ff_whole::{POINT_SIZE, Pt, SLOPE_SIZE};
+use ff_whole::{POINT_SIZE, Place, Pt, SLOPE_SIZE, reduced};
 
 /// The point `(x / n, y / n)`, where `n` is the squared length of an edge.
 #[derive(Clone, Copy, Debug, PartialEq, Eq)]
@@ -88,4 +90,26 @@ pub(crate) fn image_of(hinge: Hinge, r: Pt) -> Image
         y: moved(n, hinge.u.y, a, dy, -c, dx),
         n,
     }
+}
+
+// The quotient, where it is whole.
+fn whole(x: i128, n: i128) -> Option<i128>
+    requires { pos 0 <ℤ n }
+    ensures { IfSome result (λ q. x ≡ n *ℤ q) }
+{
+    if x % n == 0 { Some(x / n) } else { None }
+}
+
+/// The image in lowest terms. Mostly it is whole.
+pub(crate) fn lowest(image: Image) -> Place
+    requires { IsFit image }
+    ensures { IsReduced image.x image.y image.n result }
+{
+    let n = image.n as i128;
+    if let Some(x) = whole(image.x, n)
+        && let Some(y) = whole(image.y, n)
+    {
+        return Place { x, y, w: 1 };
+    }
+    reduced(image.x, image.y, n)
 }

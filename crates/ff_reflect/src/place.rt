@@ -1,7 +1,7 @@
 //! Places the faces one after the other.
 ghost use Rattle.std.specs.Prelude.{◌≡◌, ℕ, ◌+◌, ◌<◌, [], ◌∷◌, length, true, take, slice_index, slice_set, MatchResult};
 ghost use Rattle.ff_types.specs.FoldRefusals.{placings, RefusesFolding};
-ghost use Rattle.ff_reflect.specs.Puts.{IsNothing, IsLaid, IsSound, IsHinge, Carries, StopsCarrying};
+ghost use Rattle.ff_reflect.specs.Puts.{IsNothing, IsLaid, IsSound, IsHinge, Moves, StopsCarrying};
 ghost use Rattle.ff_reflect.specs.Sheets.{paper_of};
 ghost use Rattle.ff_reflect.specs.Trees.{order_along};
 ghost use Rattle.ff_reflect.specs.Walked.{met_of};
@@ -16,7 +16,7 @@ use ff_whole::Pt;
 use std::alloc::Global;
 
 impl Placed {
-    // Places a vertex of a face that lies over the edge with these ends.
+    // Places a vertex of a face that lies over the edge with these ends, which have their places.
     fn carry_one(
         &mut self,
         pattern: &Pattern,
@@ -27,8 +27,11 @@ impl Placed {
         requires sound { IsSound (length pattern.now.points) self.old }
         requires hinge { IsHinge pattern.now.points ends }
         requires vertex { v < length pattern.now.points }
-        ensures { MatchResult result (λ _. Carries pattern.now.points ends up v self.old self.new) (StopsCarrying pattern.now.points ends up v self.old) }
+        ensures { MatchResult result (λ _. Moves pattern.now.points ends up v self.old self.new) (StopsCarrying pattern.now.points ends up v self.old) }
     {
+        if v == ends.a || v == ends.b {
+            return Ok(());
+        }
         let points = pattern.points.as_slice();
         let hinge = Hinge {
             up,

@@ -6,11 +6,11 @@ ghost use Rattle.ff_whole.specs.Points.{IsNear};
 ghost use Rattle.ff_types.specs.Foldings.{scaled};
 ghost use Rattle.ff_reflect.specs.Puts.{IsNothing, IsHere, IsNearPoint, AreNearPoints, IsGrown, IsTooLarge, IsFit, IsAdded, IsTooFar, Puts, Refuses};
 
-use crate::image::Image;
+use crate::image::{Image, lowest};
 use crate::sizes::{IMAGE_SIZE, LENGTH_SIZE};
 use ff_tables::NoMemory;
 use ff_types::Refusal;
-use ff_whole::{POINT_SIZE, Pt, SLOPE_SIZE, reduced};
+use ff_whole::{POINT_SIZE, Pt, SLOPE_SIZE};
 use std::alloc::Global;
 
 /// The point of each vertex times the scale, and which vertices are placed. Others are at the origin.
@@ -115,7 +115,7 @@ impl Placed {
         requires flag { v < length self.old.placed.items }
         ensures { MatchBool result (IsAdded v image self.old self.new) (IsTooFar image self.old) }
     {
-        let place = reduced(image.x, image.y, image.n as i128);
+        let place = lowest(image);
         let Some(p) = near_point(place.x, place.y) else {
             return false;
         };

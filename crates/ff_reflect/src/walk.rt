@@ -8,12 +8,11 @@ ghost use Rattle.ff_reflect.specs.Index.{Indexes};
 ghost use Rattle.ff_reflect.specs.Trees.{first_meetings, order_along};
 ghost use Rattle.ff_reflect.specs.Walked.{meeting_of, met_of, IsWalk, HasMet, IsTree};
 
-use crate::index::{edge_of, index_of};
+use crate::index::{Index, edge_of, index_of};
 use ff_tables::NoMemory;
 use ff_types::{EdgeSides, Faces, Pattern};
 use ff_whole::next_place;
 use std::alloc::Global;
-use std::collections::BTreeMap;
 
 /// A face that was taken, an edge of it, and the face across.
 #[derive(Clone, Copy, Debug, PartialEq, Eq)]
@@ -54,7 +53,7 @@ fn other_of(face: u32, sides: EdgeSides) -> Option<u32>
 fn meeting_over(
     pattern: &Pattern,
     faces: &Faces,
-    index: &BTreeMap<u64, u32>,
+    index: &Index,
     face: u32,
     u: u32,
     v: u32,
@@ -109,7 +108,7 @@ impl Walk {
         &mut self,
         pattern: &Pattern,
         faces: &Faces,
-        index: &BTreeMap<u64, u32>,
+        index: &Index,
         face: u32,
         u: u32,
         v: u32,
@@ -131,7 +130,7 @@ impl Walk {
         &mut self,
         pattern: &Pattern,
         faces: &Faces,
-        index: &BTreeMap<u64, u32>,
+        index: &Index,
         face: u32,
     ) -> Result<(), NoMemory>
         requires faces { HasFaces (paper_of pattern.now faces.now) }
