@@ -1,5 +1,5 @@
 -- Chains of edges: none yet, and what is found in them.
-use Rattle.std.proofs.Common.{◌≡◌, ◌≢◌, ◌∙◌, ℕ, suc, ◌+◌, ◌*◌, ◌%◌, ◌<◌, ◌≤◌, List, length, true, false, arith, refl, sym, ap, subst, ◌⊎◌, inl, inr, Option, Some, None, IsTrue, slice_index_or, replicate}
+use Rattle.std.proofs.Common.{◌≡◌, ◌∙◌, ℕ, suc, ◌<◌, ◌≤◌, List, length, false, arith, refl, sym, ap, subst, ◌⊎◌, inl, inr, Option, Some, None, IsTrue, slice_index_or, replicate}
 use Rattle.std.proofs.lemmas.List.{get_or-replicate, length-replicate, get_or_read}
 use Rattle.std.proofs.lemmas.Bool.{false≢true}
 use Rattle.std.proofs.lemmas.List.Quantifiers.{position-Some}

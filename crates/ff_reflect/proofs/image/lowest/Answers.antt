@@ -1,7 +1,5 @@
-use Rattle.std.proofs.Common.{subst, ℤ}
 use Rattle.ff_whole.proofs.Bounds.{read, trip}
 use mir.Syntax.{w64, w128}
-use Rattle.ff_whole.specs.Meeting.{IsReduced}
 use Rattle.ff_reflect.proofs.Puts.{low_whole, low_read}
 use Rattle.ff_reflect.proofs.image.lowest.Goals as goal
 

@@ -1,4 +1,4 @@
-use Rattle.std.proofs.Common.{◌∙◌, Some, sym, ap, subst, ◌<◌}
+use Rattle.std.proofs.Common.{◌∙◌, sym, subst, ◌<◌}
 use Rattle.ff_reflect.proofs.Indexed.{IsAhead, all_ahead, found, not_found, fewer_ahead, room}
 use Rattle.ff_reflect.proofs.index.edge_of.Goals as goal
 

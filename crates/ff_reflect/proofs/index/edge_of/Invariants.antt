@@ -1,4 +1,3 @@
-use Rattle.std.proofs.Common.{ℕ, suc, Option, Some, None}
 use Rattle.ff_reflect.proofs.Indexed.{IsAhead, room}
 use Rattle.ff_reflect.proofs.index.edge_of.Given as goal
 

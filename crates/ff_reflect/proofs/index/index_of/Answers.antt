@@ -1,4 +1,4 @@
-use Rattle.std.proofs.Common.{subst, arith, length}
+use Rattle.std.proofs.Common.{subst, arith}
 use Rattle.ff_reflect.specs.Index.{Indexes}
 use Rattle.ff_reflect.proofs.Indexed.{indexes_none, is_none}
 use Rattle.ff_reflect.proofs.index.index_of.Goals as goal

@@ -2,7 +2,7 @@ use Rattle.std.proofs.Common.{◌∙◌, subst, refl, arith, ℤ, inl, inr, to_z
 use lib.IntN.{*ℤ_comm}
 use Rattle.ff_whole.specs.Points.{IsNear}
 use Rattle.ff_whole.proofs.Bounds.{read, trip, multiple, fits_exactly, below_exactly}
-use mir.Syntax.{w64, w128}
+use mir.Syntax.{w128}
 use Rattle.ff_reflect.specs.Puts.{IsTooLarge, IsGrown, IsNearPoint}
 use Rattle.ff_reflect.proofs.Puts.{low_of, added}
 use Rattle.ff_reflect.proofs.placed.Placed.add.Goals as goal
