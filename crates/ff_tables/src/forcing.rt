@@ -139,7 +139,6 @@ pub fn forced<K: Known>(constraint: &Constraint, known: &K) -> Forced
     match constraint.kind {
         Kind::Transitivity => forced_by_three(terms, known),
         Kind::TacoTaco => forced_by(Kind::TacoTaco, terms, known),
-        Kind::TacoTortilla => forced_by(Kind::TacoTortilla, terms, known),
-        Kind::TortillaTortilla => forced_by(Kind::TortillaTortilla, terms, known),
+        Kind::TacoTortilla | Kind::TortillaTortilla => forced_by(constraint.kind, terms, known),
     }
 }

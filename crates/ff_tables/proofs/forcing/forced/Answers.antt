@@ -1,4 +1,4 @@
-use Rattle.std.proofs.Common.{◌≡◌, ℕ, List, subst, sym, Option}
+use Rattle.std.proofs.Common.{◌≡◌, ℕ, List, subst, refl, sym, Option}
 use Rattle.ff_tables.specs.declared.orders.Order.{Order}
 use Rattle.ff_tables.specs.declared.terms.Kind.{Kind}
 use Rattle.ff_tables.specs.declared.terms.Kind.TheVariants as kind
@@ -23,11 +23,6 @@ returns-in-TacoTaco g c = of_kind c.args.constraint.now.kind kind.TacoTaco c.arg
     c.as_slice-terms.ensures.value c.forced_by.ensures
 
 pub returns-in-TacoTortilla : goal.returns-in-TacoTortilla
-returns-in-TacoTortilla g c = of_kind c.args.constraint.now.kind kind.TacoTortilla c.args.constraint.now.terms
-    c.as_slice-terms.result.now (g.K.Known.known c.args.known.now) c.forced_by-in-TacoTortilla.result c.in-TacoTortilla.is
-    c.as_slice-terms.ensures.value c.forced_by-in-TacoTortilla.ensures
-
-pub returns-in-TortillaTortilla : goal.returns-in-TortillaTortilla
-returns-in-TortillaTortilla g c = of_kind c.args.constraint.now.kind kind.TortillaTortilla c.args.constraint.now.terms
-    c.as_slice-terms.result.now (g.K.Known.known c.args.known.now) c.forced_by-in-TortillaTortilla.result c.in-TortillaTortilla.is
-    c.as_slice-terms.ensures.value c.forced_by-in-TortillaTortilla.ensures
+returns-in-TacoTortilla g c = of_kind c.args.constraint.now.kind c.args.constraint.now.kind
+    c.args.constraint.now.terms c.as_slice-terms.result.now (g.K.Known.known c.args.known.now)
+    c.forced_by-in-TacoTortilla.result refl c.as_slice-terms.ensures.value c.forced_by-in-TacoTortilla.ensures
