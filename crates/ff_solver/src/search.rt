@@ -22,9 +22,7 @@ fn read_values(part: &[u32], trail: &Trail, vars: u32, values: &mut Vec<Order>)
 {
     let _ = vars;
     for k in 0..part.len() {
-        if let Some(value) = trail.values.value(part[k]) {
-            values.push_reserved(value);
-        }
+        values.push_reserved(trail.values.value(part[k]).unwrap_or(Order::Below));
     }
 }
 
