@@ -96,7 +96,7 @@ fn forced_by<K: Known>(kind: Kind, terms: &[Term], known: &K) -> Forced
 fn may_stand(pq: Order, pr: Order, qr: Order) -> bool
     ensures { result ≡ has_no_cycle pq pr qr }
 {
-    pq != qr || pq == pr
+    (pq != qr) | (pq == pr)
 }
 
 // What terms of transitivity force. Mostly all three are known.
