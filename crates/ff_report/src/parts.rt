@@ -36,20 +36,20 @@ fn push_part(text: &mut String, number: u32, vars: &[u32]) -> Result<(), AllocEr
     text.push_str("\n")
 }
 
-fn sign_of(value: Order) -> &'static str
-    ensures { result.now ≡ sign value }
+fn push_sign(text: &mut String, value: Order) -> Result<(), AllocError>
+    ensures { OnOk result (string_bytes text.new ≡ string_bytes text.old ++ sign value) }
 {
-    match value {
-        Order::Below => "-",
-        Order::Above => "+",
-    }
+    text.push(match value {
+        Order::Below => '-',
+        Order::Above => '+',
+    })
 }
 
 fn push_signs(text: &mut String, values: &[Order]) -> Result<(), AllocError>
     ensures { OnOk result (string_bytes text.new ≡ string_bytes text.old ++ flat_map sign values.now) }
 {
     for value in values {
-        text.push_str(sign_of(*value))?;
+        push_sign(text, *value)?;
     }
     Ok(())
 }
