@@ -99,17 +99,21 @@ module _ (g : Sheet) where
   pub faces_none : AreFacesTo g 0 0 []
   faces_none = rows.listed_none edge_and_face (IsEdgeFace g) (IsCrossed g)
 
+  face_of : (e f : ℕ) → HasEdgeInside g f e → f < length g.rings
+  face_of e f h = ltb-true f (length g.rings) (both_of (is_face g f) _ (h.inside 1 1 (omega arith) (omega arith))).0
+
   pub faces_skip : (e f : ℕ) (list : List EdgeFace) → (HasEdgeInside g f e → ⊥) → AreFacesTo g e f list → AreFacesTo g e (f + 1) list
   faces_skip e f list none s = rows.skip edge_and_face (IsEdgeFace g) (IsCrossed g) e f list (λ w. none w.inside) s
+
+  -- the edge has no part inside the faces from one up to another
+  pub faces_skip_to : (e f h : ℕ) (list : List EdgeFace) → f ≤ h → ((k : ℕ) → f ≤ k → k < h → k < length g.rings → HasEdgeInside g k e → ⊥) → AreFacesTo g e f list → AreFacesTo g e h list
+  faces_skip_to e f h list up none s = rows.skip_to edge_and_face (IsEdgeFace g) (IsCrossed g) e f h list up (λ k l m w. none k l m (face_of e k w.inside) w.inside) s
 
   key_is : (x : EdgeFace) (e f : ℕ) → x.e ≡ e → x.face ≡ f → edge_and_face x ≡ (e, f)
   key_is x e f p q = λ i. (p i, q i)
 
   pub faces_take : (e f : ℕ) (list : List EdgeFace) (x : EdgeFace) → (x.e ≡ e) × (x.face ≡ f) × IsEdgeFace g x → AreFacesTo g e f list → AreFacesTo g e (f + 1) (list ++ x ∷ [])
   faces_take e f list x h s = rows.take edge_and_face (IsEdgeFace g) (IsCrossed g) e f list x (key_is x e f h.0 h.1) h.2 s
-
-  face_of : (e f : ℕ) → HasEdgeInside g f e → f < length g.rings
-  face_of e f h = ltb-true f (length g.rings) (both_of (is_face g f) _ (h.inside 1 1 (omega arith) (omega arith))).0
 
   pub faces_end : (e f : ℕ) (list : List EdgeFace) → length g.rings ≤ f → AreFacesTo g e f list → AreFacesTo g (e + 1) 0 list
   faces_end e f list far s = rows.row_ends edge_and_face (IsEdgeFace g) (IsCrossed g) e list f (λ b w. let l = face_of e b w.inside in omega (arith, l, far)) s

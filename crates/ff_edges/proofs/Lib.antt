@@ -11,3 +11,7 @@ pub mod PartsInside
 pub mod FaceSteps
 pub mod FaceParts
 pub mod FaceLists
+pub mod StrictlyInside
+pub mod Eithers
+pub mod ExtentLists
+pub mod BesideFaces

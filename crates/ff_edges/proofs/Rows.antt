@@ -1,6 +1,6 @@
 -- A list that is made row by row, item by item; and that it can always be finished.
 use Rattle.std.proofs.Common.{◌≡◌, ℕ, zero, suc, ◌+◌, ◌-◌, ◌<◌, ◌≤◌, ◌==◌, ◌&&◌, ◌||◌, ◌⊎◌, Bool, true, false, List, [], ◌∷◌, ◌++◌, length, refl, sym, ◌∙◌, ap, subst, inl, inr, arith, IsTrue, Some, slice_get, nat_lt}
-use Rattle.std.proofs.lemmas.Bool.{lt-ltb}
+use Rattle.std.proofs.lemmas.Bool.{cases_lt, lt-ltb}
 use Rattle.std.proofs.lemmas.Option.{slice_get_within}
 use Rattle.ff_types.specs.Pairs.{is_before}
 use Rattle.ff_types.proofs.Computing.{equal_itself}
@@ -105,6 +105,20 @@ module _ {X : Type 0} (key : X → ℕ × ℕ) (Good : X → Type 0) (Wanted : �
   skip i j list unwanted s = move i j i (j + 1) list (λ p k. next_prior p i j k) back s where
     back : (a b : ℕ) → Wanted a b → IsPrior (a, b) i (j + 1) → IsPrior (a, b) i j
     back a b w k = elim (either_prior a b i j k) [ inl e ↦ e | inr e ↦ absurd (unwanted (subst (λ x. Wanted x j) e.0 (subst (λ y. Wanted a y) e.1 w))) ]
+
+  -- from one column up to another none is wanted
+  pub skip_to : (i j k : ℕ) (list : List X) → j ≤ k → ((b : ℕ) → j ≤ b → b < k → Wanted i b → ⊥) → Listed i j list → Listed i k list
+  skip_to i j k list up unwanted s = move i j i k list on back s where
+    on : (p : ℕ × ℕ) → IsPrior p i j → IsPrior p i k
+    on p (inl l) = inl l
+    on p (inr l) = inr (l.0, omega (arith, l.1, up))
+
+    either : (b : ℕ) → b < k → (b < j) ⊎ ((j ≤ b) × (b < k))
+    either b l = elim (cases_lt b j) [ inl m ↦ inl m | inr m ↦ inr (m, l) ]
+
+    back : (a b : ℕ) → Wanted a b → IsPrior (a, b) i k → IsPrior (a, b) i j
+    back a b w (inl l) = inl l
+    back a b w (inr (e, l)) = elim (either b l) [ inl m ↦ inr (e, m) | inr m ↦ absurd (unwanted b m.0 m.1 (subst (λ x. Wanted x b) e w)) ]
 
   pub take : (i j : ℕ) (list : List X) (x : X) → key x ≡ (i, j) → Good x → Listed i j list → Listed i (j + 1) (list ++ x ∷ [])
   take i j list x at good s = record { sorted = sorted; only = only; all = all } where

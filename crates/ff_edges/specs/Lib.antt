@@ -3,3 +3,4 @@ pub mod Listing
 pub mod SharedSegments
 pub mod Clips
 pub mod EdgesInside
+pub mod Extents

@@ -1,5 +1,5 @@
 //! The faces that an edge has a part inside of.
-ghost use Rattle.std.specs.Prelude.{◌≡◌, ◌≢◌, ◌<◌, ◌≤◌, ◌+◌, length, IsTrue, IfOk, IfErr, OnOk, MatchOption};
+ghost use Rattle.std.specs.Prelude.{◌≡◌, ◌≢◌, ◌<◌, ◌≤◌, ◌+◌, ◌*◌, length, IsTrue, IfOk, IfErr, OnOk, MatchOption};
 ghost use Rattle.ff_whole.specs.Points.{IsNear};
 ghost use Rattle.ff_types.specs.Faces.{ring_at};
 ghost use Rattle.ff_types.specs.Foldings.{is_up};
@@ -8,6 +8,7 @@ ghost use Rattle.ff_types.specs.Sheets.{sheet_of};
 ghost use Rattle.ff_types.specs.Segments.{HasEdgeInside};
 ghost use Rattle.ff_types.specs.declared.limits.TheConstants.{MOST_CONSTRAINTS as most_constraints};
 ghost use Rattle.ff_edges.specs.Clips.{IsPartInside, IsNoneInside};
+ghost use Rattle.ff_edges.specs.Extents.{IsExtent, IsRoundEdge, IsRoundFace, AreExtents, AreBlocks};
 ghost use Rattle.ff_edges.specs.EdgesInside.{is_inner_edge, IsEdgeFace, AreFacesTo, AreEdgeFaces, AreNoEdgeFaces};
 
 use crate::EdgeFace;
@@ -15,6 +16,9 @@ use crate::append::append;
 use crate::beside::ends;
 use crate::clips::part_inside;
 use crate::common::{earlier, later};
+use crate::extents::{
+    BLOCK, Extent, Reach, block_end, block_extents, edge_reach, face_extents, is_beside,
+};
 use crate::shared::is_inner;
 use ff_tables::Items;
 use ff_types::{Faces, Folded, No, Pattern};
@@ -92,16 +96,53 @@ fn append_face(
     }
 }
 
+// Appends the edge with each face of the block that it has a part inside of.
+fn append_block(
+    list: &mut Vec<EdgeFace>,
+    pattern: &Pattern,
+    faces: &Faces,
+    folded: &Folded,
+    extents: &[Extent],
+    reach: Reach,
+    b: usize,
+) -> Result<(), No>
+    requires folded { IsFoldedPattern pattern.now faces.now folded.now }
+    requires edge { reach.number < length pattern.now.edges }
+    requires inner { IsTrue (is_inner_edge (sheet_of pattern.now faces.now folded.now) reach.number) }
+    requires reach_extent { IsExtent reach.extent }
+    requires reach_round { IsRoundEdge (sheet_of pattern.now faces.now folded.now) reach.number reach.extent }
+    requires extents { AreExtents (IsRoundFace (sheet_of pattern.now faces.now folded.now)) (length faces.now.rings) extents.now }
+    requires block { BLOCK * b ≤ length extents.now }
+    requires listed { AreFacesTo (sheet_of pattern.now faces.now folded.now) reach.number (BLOCK * b) list.old.items }
+    requires few { length list.old.items ≤ most_constraints }
+    ensures listed { OnOk result (AreFacesTo (sheet_of pattern.now faces.now folded.now) reach.number (BLOCK * b + BLOCK) list.new.items) }
+    ensures few { OnOk result (length list.new.items ≤ most_constraints) }
+    ensures refused { IfErr result (AreNoEdgeFaces (sheet_of pattern.now faces.now folded.now)) }
+{
+    let from = b * BLOCK;
+    for f in from..block_end(from, extents.len()) {
+        if is_beside(reach.extent, extents[f]) {
+            continue;
+        }
+        append_face(list, pattern, faces, folded, reach.number, f as u32)?;
+    }
+    Ok(())
+}
+
 // Appends the edge with each face that it has a part inside of.
 fn append_faces(
     list: &mut Vec<EdgeFace>,
     pattern: &Pattern,
     faces: &Faces,
     folded: &Folded,
+    extents: &[Extent],
+    blocks: &[Extent],
     e: u32,
 ) -> Result<(), No>
     requires folded { IsFoldedPattern pattern.now faces.now folded.now }
     requires edge { e < length pattern.now.edges }
+    requires extents { AreExtents (IsRoundFace (sheet_of pattern.now faces.now folded.now)) (length faces.now.rings) extents.now }
+    requires blocks { AreBlocks extents.now blocks.now }
     requires listed { AreFacesTo (sheet_of pattern.now faces.now folded.now) e 0 list.old.items }
     requires few { length list.old.items ≤ most_constraints }
     ensures listed { OnOk result (AreFacesTo (sheet_of pattern.now faces.now folded.now) (e + 1) 0 list.new.items) }
@@ -111,8 +152,12 @@ fn append_faces(
     if !is_inner(pattern, faces, folded, e) {
         return Ok(());
     }
-    for f in 0..faces.rings.as_slice().len() as u32 {
-        append_face(list, pattern, faces, folded, e, f)?;
+    let reach = edge_reach(pattern, faces, folded, e);
+    for b in 0..blocks.len() {
+        if is_beside(reach.extent, blocks[b]) {
+            continue;
+        }
+        append_block(list, pattern, faces, folded, extents, reach, b)?;
     }
     Ok(())
 }
@@ -131,9 +176,19 @@ pub fn edge_faces(
     ensures few { IfOk result (λ list. length list ≤ most_constraints) }
     ensures refused { IfErr result (AreNoEdgeFaces (sheet_of pattern.now faces.now folded.now)) }
 {
+    let extents = face_extents(alloc, pattern, faces, folded)?;
+    let blocks = block_extents(alloc, extents.as_slice())?;
     let mut list = Vec::new(alloc);
     for e in 0..pattern.edges.as_slice().len() as u32 {
-        append_faces(&mut list, pattern, faces, folded, e)?;
+        append_faces(
+            &mut list,
+            pattern,
+            faces,
+            folded,
+            extents.as_slice(),
+            blocks.as_slice(),
+            e,
+        )?;
     }
     Ok(Items::of(list))
 }

@@ -9,6 +9,7 @@ mod common;
 mod crossed;
 mod edge_face;
 mod edge_pair;
+mod extents;
 mod marks;
 mod shared;
 mod sides;

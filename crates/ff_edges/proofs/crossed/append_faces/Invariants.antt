@@ -1,11 +1,12 @@
-use Rattle.std.proofs.Common.{◌≤◌, length}
+use Rattle.std.proofs.Common.{◌*◌, ◌≤◌, length}
 use Rattle.ff_types.specs.Sheets.{sheet_of}
 use Rattle.ff_types.specs.declared.limits.TheConstants.{MOST_CONSTRAINTS}
+use Rattle.ff_edges.specs.declared.extents.TheConstants.{BLOCK}
 use Rattle.ff_edges.specs.EdgesInside.{AreFacesTo}
 use Rattle.ff_edges.proofs.crossed.append_faces.Given as goal
 
-abbrev pub invariant-loop-f : goal.invariant-loop-f
-invariant-loop-f l = record {
-  listed : AreFacesTo (sheet_of l.pattern l.faces l.folded) l.e l.f l.list.items;
+abbrev pub invariant-loop-b : goal.invariant-loop-b
+invariant-loop-b l = record {
+  listed : AreFacesTo (sheet_of l.pattern l.faces l.folded) l.e (BLOCK * l.b) l.list.items;
   few : length l.list.items ≤ MOST_CONSTRAINTS;
 }
