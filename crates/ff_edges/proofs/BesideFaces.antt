@@ -8,8 +8,8 @@ use Rattle.ff_whole.specs.declared.places.Place.{Place}
 use Rattle.ff_whole.specs.Points.{minus, dot}
 use Rattle.ff_whole.specs.Places.{place_of, height, past, blend}
 use Rattle.ff_whole.specs.Convex.{point_at}
-use Rattle.ff_whole.proofs.Formulas.{point_e, point_env, place_of_e, height_e}
-use Rattle.ff_whole.proofs.Ring.{var, num, opp, ◌⊖◌, solve}
+use Rattle.ff_whole.proofs.Formulas.{point_e, point_env, place_e, place_env, place_of_e, height_e}
+use Rattle.ff_whole.proofs.Ring.{var, num, opp, ◌⊖◌, ◌⊗◌, solve}
 use Rattle.ff_whole.proofs.Signs.{linear, pos-mul, nonneg-mul_nonpos}
 use Rattle.ff_whole.proofs.Offsets.{height-ends}
 use Rattle.ff_whole.proofs.OnEdges.{IsOn}
@@ -43,33 +43,50 @@ not_left_on l p q m long h low high =
     by_lt_z (pos 0) (height l m) (λ up. let x = pos-mul (dot (minus q p) (minus q p)) (height l m) long up in absurd (omega (arith, linear))) (λ l. l)
 
 -- the lines from south to north and from west to east, with what is past them on the left
-abbrev past_x : ℤ → Line
+abbrev pub past_x : ℤ → Line
 past_x c = record { a = pos 1; b = pos 0; c = c }
 
-abbrev before_x : ℤ → Line
+abbrev pub before_x : ℤ → Line
 before_x c = record { a = neg_ℤ (pos 1); b = pos 0; c = neg_ℤ c }
 
-abbrev past_y : ℤ → Line
+abbrev pub past_y : ℤ → Line
 past_y c = record { a = pos 0; b = pos 1; c = c }
 
-abbrev before_y : ℤ → Line
+abbrev pub before_y : ℤ → Line
 before_y c = record { a = pos 0; b = neg_ℤ (pos 1); c = neg_ℤ c }
 
-over_past_x : (c : ℤ) (p : Pt) → height (past_x c) (place_of p) ≡ p.x -ℤ c
+pub over_past_x : (c : ℤ) (p : Pt) → height (past_x c) (place_of p) ≡ p.x -ℤ c
 over_past_x c p = let p' = point_e 0 in
     solve (point_env p (c ∷ [])) (height_e (record { a = num (pos 1); b = num (pos 0); c = var 2 }) (place_of_e p')) (p'.x ⊖ var 2) refl
 
-over_before_x : (c : ℤ) (p : Pt) → height (before_x c) (place_of p) ≡ c -ℤ p.x
+pub over_before_x : (c : ℤ) (p : Pt) → height (before_x c) (place_of p) ≡ c -ℤ p.x
 over_before_x c p = let p' = point_e 0 in
     solve (point_env p (c ∷ [])) (height_e (record { a = opp (num (pos 1)); b = num (pos 0); c = opp (var 2) }) (place_of_e p')) (var 2 ⊖ p'.x) refl
 
-over_past_y : (c : ℤ) (p : Pt) → height (past_y c) (place_of p) ≡ p.y -ℤ c
+pub over_past_y : (c : ℤ) (p : Pt) → height (past_y c) (place_of p) ≡ p.y -ℤ c
 over_past_y c p = let p' = point_e 0 in
     solve (point_env p (c ∷ [])) (height_e (record { a = num (pos 0); b = num (pos 1); c = var 2 }) (place_of_e p')) (p'.y ⊖ var 2) refl
 
-over_before_y : (c : ℤ) (p : Pt) → height (before_y c) (place_of p) ≡ c -ℤ p.y
+pub over_before_y : (c : ℤ) (p : Pt) → height (before_y c) (place_of p) ≡ c -ℤ p.y
 over_before_y c p = let p' = point_e 0 in
     solve (point_env p (c ∷ [])) (height_e (record { a = num (pos 0); b = opp (num (pos 1)); c = opp (var 2) }) (place_of_e p')) (var 2 ⊖ p'.y) refl
+
+-- the same of places
+pub at_past_x : (c : ℤ) (s : Place) → height (past_x c) s ≡ s.x -ℤ s.w *ℤ c
+at_past_x c s = let s' = place_e 0 in
+    solve (place_env s (c ∷ [])) (height_e (record { a = num (pos 1); b = num (pos 0); c = var 3 }) s') (s'.x ⊖ s'.w ⊗ var 3) refl
+
+pub at_before_x : (c : ℤ) (s : Place) → height (before_x c) s ≡ s.w *ℤ c -ℤ s.x
+at_before_x c s = let s' = place_e 0 in
+    solve (place_env s (c ∷ [])) (height_e (record { a = opp (num (pos 1)); b = num (pos 0); c = opp (var 3) }) s') (s'.w ⊗ var 3 ⊖ s'.x) refl
+
+pub at_past_y : (c : ℤ) (s : Place) → height (past_y c) s ≡ s.y -ℤ s.w *ℤ c
+at_past_y c s = let s' = place_e 0 in
+    solve (place_env s (c ∷ [])) (height_e (record { a = num (pos 0); b = num (pos 1); c = var 3 }) s') (s'.y ⊖ s'.w ⊗ var 3) refl
+
+pub at_before_y : (c : ℤ) (s : Place) → height (before_y c) s ≡ s.w *ℤ c -ℤ s.y
+at_before_y c s = let s' = place_e 0 in
+    solve (place_env s (c ∷ [])) (height_e (record { a = num (pos 0); b = opp (num (pos 1)); c = opp (var 3) }) s') (s'.w ⊗ var 3 ⊖ s'.y) refl
 
 module _ {pattern : Pattern} {faces : Faces} {folded : Folded} (h : IsFoldedPattern pattern faces folded) where
   abbrev g : Sheet

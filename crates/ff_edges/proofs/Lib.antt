@@ -15,3 +15,4 @@ pub mod StrictlyInside
 pub mod Eithers
 pub mod ExtentLists
 pub mod BesideFaces
+pub mod ApartEdges

@@ -1,5 +1,5 @@
 -- The list of edges that run along each other, as far as it is made, and what it comes to.
-use Rattle.std.proofs.Common.{◌≡◌, ℕ, ◌+◌, ◌<◌, ◌≤◌, ◌⊎◌, inl, inr, refl, sym, ◌∙◌, arith, Bool, true, false, IsTrue, List, [], ◌∷◌, ◌++◌, length}
+use Rattle.std.proofs.Common.{◌≡◌, ℕ, ◌+◌, ◌<◌, ◌≤◌, ◌⊎◌, inl, inr, refl, sym, ◌∙◌, arith, Bool, true, false, ◌||◌, IsTrue, List, [], ◌∷◌, ◌++◌, length}
 use Rattle.std.proofs.lemmas.Bool.{cases_lt, ltb-true, false≢true}
 use Rattle.ff_whole.specs.declared.points.Pt.{Pt}
 use Rattle.ff_whole.specs.Points.{IsNear}
@@ -16,6 +16,7 @@ use Rattle.ff_types.specs.FoldedPatterns.{IsFoldedPattern}
 use Rattle.ff_types.proofs.FoldedEdges.{tail_below, head_below, ends_apart}
 use Rattle.ff_edges.specs.declared.edge_pair.EdgePair.{EdgePair}
 use Rattle.ff_edges.specs.Ways.{IsCommonWay, HaveNoWay}
+use Rattle.ff_edges.specs.EdgesInside.{is_inner_edge}
 use Rattle.ff_edges.specs.SharedSegments.{beside_both, constrain, edges_of_pair, IsEdgePair, AreEdgePairs, IsWanted, ArePairsTo, IsFull, AreNoEdgePairs}
 use Rattle.ff_edges.proofs.OnWays.{both_of}
 use Rattle.ff_edges.proofs.CommonWays.{way_or_not}
@@ -37,17 +38,38 @@ second_edge g e k t = elim (second_flag (is_folded_edge g e) (is_folded_edge g k
   | inr u ↦ ltb-true k (length g.edges) (both_of (is_edge g k) _ u).0
 ]
 
-above : (g : Sheet) (a b : ℕ) → IsWanted g a b → a < b
-above g a b w = w.order
+first_flag : (a b s c d : Bool) → IsTrue (constrain_by a b s c d) → IsTrue (a || c)
+first_flag true b s c d t = refl
+first_flag false b s true d t = refl
+first_flag false b s false d t = absurd (false≢true t)
 
-pub pairs_begin : (g : Sheet) (e : ℕ) (list : List EdgePair) → ArePairsTo g e 0 list → ArePairsTo g e (e + 1) list
-pairs_begin g e list s = rows.row_begins edges_of_pair (IsEdgePair g) (IsWanted g) (above g) e list s
+either_flag : (b d : Bool) → IsTrue b ⊎ IsTrue d → IsTrue (b || d)
+either_flag true d h = refl
+either_flag false d (inl t) = absurd (false≢true t)
+either_flag false d (inr t) = t
+
+-- neither is a border edge
+pub both_inner : (g : Sheet) (e k : ℕ) → IsTrue (constrain g e k) → IsTrue (is_inner_edge g e) × IsTrue (is_inner_edge g k)
+both_inner g e k t =
+    let side = on_one_side g e (beside_both g e k) in (
+      first_flag (is_folded_edge g e) (is_folded_edge g k) side (is_flat_edge g e) (is_flat_edge g k) t,
+      either_flag (is_folded_edge g k) (is_flat_edge g k) (second_flag (is_folded_edge g e) (is_folded_edge g k) side (is_flat_edge g e) (is_flat_edge g k) t),
+    )
+
+-- a border edge has none
+pub pairs_border : (g : Sheet) (e : ℕ) (list : List EdgePair) → is_inner_edge g e ≡ false → ArePairsTo g e 0 list → ArePairsTo g (e + 1) 0 list
+pairs_border g e list border s = rows.row_ends edges_of_pair (IsEdgePair g) (IsWanted g) e list 0 (λ b w. absurd (false≢true (sym border ∙ (both_inner g e b w.constrained).0))) s
 
 pub pairs_end : (g : Sheet) (e k : ℕ) (list : List EdgePair) → length g.edges ≤ k → ArePairsTo g e k list → ArePairsTo g (e + 1) 0 list
 pairs_end g e k list far s = rows.row_ends edges_of_pair (IsEdgePair g) (IsWanted g) e list k (λ b w. let l = w.edge in omega (arith, l, far)) s
 
 pub pairs_skip : (g : Sheet) (e k : ℕ) (list : List EdgePair) → (IsTrue (constrain g e k) → ShareSegment g e k → ⊥) → ArePairsTo g e k list → ArePairsTo g e (k + 1) list
 pairs_skip g e k list none s = rows.skip edges_of_pair (IsEdgePair g) (IsWanted g) e k list (λ w. none w.constrained w.shares) s
+
+-- from one edge up to another there is none
+pub pairs_skip_to : (g : Sheet) (e k h : ℕ) (list : List EdgePair) → k ≤ h → ((j : ℕ) → k ≤ j → j < h → e < j → j < length g.edges → IsTrue (constrain g e j) → ShareSegment g e j → ⊥)
+    → ArePairsTo g e k list → ArePairsTo g e h list
+pairs_skip_to g e k h list up none s = rows.skip_to edges_of_pair (IsEdgePair g) (IsWanted g) e k h list up (λ j l m w. none j l m w.order w.edge w.constrained w.shares) s
 
 key_is : (x : EdgePair) (e k : ℕ) → x.e ≡ e → x.e2 ≡ k → edges_of_pair x ≡ (e, k)
 key_is x e k p q = λ i. (p i, q i)

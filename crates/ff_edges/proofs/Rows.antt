@@ -62,17 +62,6 @@ module _ {X : Type 0} (key : X → ℕ × ℕ) (Good : X → Type 0) (Wanted : �
     all = λ a b w k. s.all a b w (back a b w k);
   }
 
-  -- a row begins with the column after its own number, where no earlier one is wanted
-  pub row_begins : ((a b : ℕ) → Wanted a b → a < b) → (i : ℕ) (list : List X) → Listed i 0 list → Listed i (i + 1) list
-  row_begins above i list s = move i 0 i (i + 1) list on back s where
-    on : (p : ℕ × ℕ) → IsPrior p i 0 → IsPrior p i (i + 1)
-    on p (inl h) = inl h
-    on p (inr h) = absurd (omega (arith, h.1))
-
-    back : (a b : ℕ) → Wanted a b → IsPrior (a, b) i (i + 1) → IsPrior (a, b) i 0
-    back a b w (inl h) = inl h
-    back a b w (inr h) = let l = above a b w in absurd (omega (arith, l, h.0, h.1))
-
   -- a row ends where no later column is wanted
   pub row_ends : (i : ℕ) (list : List X) (j : ℕ) → ((b : ℕ) → Wanted i b → b < j) → Listed i j list → Listed (i + 1) 0 list
   row_ends i list j last s = move i j (i + 1) 0 list on back s where

@@ -6,6 +6,7 @@ use Rattle.ff_whole.specs.Convex.{point_at}
 use Rattle.ff_types.specs.Rings.{corner}
 use Rattle.ff_types.specs.Faces.{ring_at}
 use Rattle.ff_types.specs.Sheets.{Sheet, tail, head}
+use Rattle.ff_edges.specs.EdgesInside.{is_inner_edge}
 use Rattle.ff_edges.specs.declared.extents.Extent.{Extent}
 use Rattle.ff_edges.specs.declared.extents.TheConstants.{BLOCK}
 
@@ -29,6 +30,10 @@ pub record IsRoundEdge (g : Sheet) (e : ℕ) (a : Extent) : Type 0 where
   pub tail : IsAround (tail g e) a
   pub head : IsAround (head g e) a
 
+-- the same, unless it is a border edge
+abbrev pub IsRoundInner : Sheet → ℕ → Extent → Type 0
+IsRoundInner g e a = IsTrue (is_inner_edge g e) → IsRoundEdge g e a
+
 -- round the first n corners of the ring
 abbrev pub AreRound : List Pt → List ℕ → ℕ → Extent → Type 0
 AreRound points ring n a = (k : ℕ) → k < n → IsAround (point_at points (corner ring k)) a
@@ -40,6 +45,10 @@ IsRoundFace g f a = AreRound g.images (ring_at g.rings f) (length (ring_at g.rin
 -- the first extent is on one side of the second, where they may touch
 abbrev pub IsBeside : Extent → Extent → Type 0
 IsBeside a b = ((a.high.x ≤ℤ b.low.x) ⊎ (b.high.x ≤ℤ a.low.x)) ⊎ ((a.high.y ≤ℤ b.low.y) ⊎ (b.high.y ≤ℤ a.low.y))
+
+-- neither is on one side of the other, but that they may touch
+abbrev pub IsTouching : Extent → Extent → Type 0
+IsTouching a b = ((b.low.x ≤ℤ a.high.x) × (a.low.x ≤ℤ b.high.x)) × ((b.low.y ≤ℤ a.high.y) × (a.low.y ≤ℤ b.high.y))
 
 -- ---- lists
 

@@ -7,9 +7,10 @@ ghost use Rattle.ff_types.specs.declared.refusals.No.TheVariants.{NoMemory as no
 ghost use Rattle.ff_types.specs.FoldedPatterns.{IsFoldedPattern};
 ghost use Rattle.ff_types.specs.Sheets.{sheet_of};
 ghost use Rattle.ff_edges.specs.EdgesInside.{is_inner_edge};
-ghost use Rattle.ff_edges.specs.Extents.{IsExtent, IsAround, IsWithin, IsRoundEdge, AreRound, IsRoundFace, IsBeside, extent_at, AreExtents, IsRoundAll, AreBlocks};
+ghost use Rattle.ff_edges.specs.Extents.{IsExtent, IsAround, IsWithin, IsRoundEdge, AreRound, IsRoundFace, IsBeside, IsTouching, IsRoundInner, extent_at, AreExtents, IsRoundAll, AreBlocks};
 
 use crate::beside::ends;
+use crate::shared::is_inner;
 use ff_types::{Faces, Folded, No, Pattern};
 use ff_whole::{POINT_SIZE, Pt};
 use std::alloc::Global;
@@ -144,6 +145,27 @@ pub fn is_beside(a: Extent, b: Extent) -> bool
         || are_beside(a.low.y, a.high.y, b.low.y, b.high.y)
 }
 
+// Whether neither of the two ranges ends before the other one begins.
+fn are_touching(a_low: i64, a_high: i64, b_low: i64, b_high: i64) -> bool
+    requires a_low_size { IsBelow POINT_SIZE a_low }
+    requires a_high_size { IsBelow POINT_SIZE a_high }
+    requires b_low_size { IsBelow POINT_SIZE b_low }
+    requires b_high_size { IsBelow POINT_SIZE b_high }
+    ensures { IsTrue result ↔ ((b_low ≤ℤ a_high) × (a_low ≤ℤ b_high)) }
+{
+    is_at_most(b_low, a_high) && is_at_most(a_low, b_high)
+}
+
+/// Whether the two extents have a place in common, be it on their borders.
+pub fn is_touching(a: Extent, b: Extent) -> bool
+    requires a_extent { IsExtent a }
+    requires b_extent { IsExtent b }
+    ensures { IsTrue result ↔ IsTouching a b }
+{
+    are_touching(a.low.x, a.high.x, b.low.x, b.high.x)
+        && are_touching(a.low.y, a.high.y, b.low.y, b.high.y)
+}
+
 /// How far the image of an edge reaches.
 pub fn edge_reach(pattern: &Pattern, faces: &Faces, folded: &Folded, e: u32) -> Reach
     requires folded { IsFoldedPattern pattern.now faces.now folded.now }
@@ -157,6 +179,38 @@ pub fn edge_reach(pattern: &Pattern, faces: &Faces, folded: &Folded, e: u32) -> 
         number: e,
         extent: joined(at(p), at(q)),
     }
+}
+
+// Nothing for a border edge.
+fn inner_extent(pattern: &Pattern, faces: &Faces, folded: &Folded, e: u32) -> Extent
+    requires folded { IsFoldedPattern pattern.now faces.now folded.now }
+    requires edge { e < length pattern.now.edges }
+    ensures extent { IsExtent result }
+    ensures round { IsRoundInner (sheet_of pattern.now faces.now folded.now) e result }
+{
+    if is_inner(pattern, faces, folded, e) {
+        edge_reach(pattern, faces, folded, e).extent
+    } else {
+        nowhere()
+    }
+}
+
+/// How far the images of all edges reach that aren't border edges.
+pub fn inner_extents(
+    alloc: Global,
+    pattern: &Pattern,
+    faces: &Faces,
+    folded: &Folded,
+) -> Result<Vec<Extent>, No>
+    requires { IsFoldedPattern pattern.now faces.now folded.now }
+    ensures made { IfOk result (λ list. AreExtents (IsRoundInner (sheet_of pattern.now faces.now folded.now)) (length pattern.now.edges) list.items) }
+    ensures refused { IfErr result (λ no. no ≡ no_memory) }
+{
+    let mut list = Vec::new(alloc);
+    for e in 0..pattern.edges.as_slice().len() as u32 {
+        push(&mut list, inner_extent(pattern, faces, folded, e))?;
+    }
+    Ok(list)
 }
 
 fn ring_extent(points: &[Pt], ring: &[u32]) -> Extent
