@@ -1,10 +1,9 @@
 -- Edges whose extents don't touch have no segment in common.
-use Rattle.std.proofs.Common.{◌≡◌, ◌⊎◌, inl, inr, arith, subst, sym, ℕ, ◌<◌, ◌≤◌, ℤ, pos, ◌-ℤ◌, ◌*ℤ◌, ◌<ℤ◌, ◌≤ℤ◌, IsTrue, List, length}
+use Rattle.std.proofs.Common.{arith, subst, sym, ℕ, ◌<◌, ◌≤◌, ℤ, pos, ◌*ℤ◌, ◌<ℤ◌, ◌≤ℤ◌, IsTrue, List, length}
 use Rattle.std.proofs.lemmas.Int.{by_lt_z}
 use Rattle.ff_whole.specs.declared.points.Pt.{Pt}
 use Rattle.ff_whole.specs.declared.places.Place.{Place}
 use Rattle.ff_whole.specs.Points.{minus, dot}
-use Rattle.ff_whole.specs.Places.{IsPlace, height}
 use Rattle.ff_whole.proofs.Signs.{linear, lt-mul_left}
 use Rattle.ff_whole.proofs.OnEdges.{IsOn}
 use Rattle.ff_whole.proofs.Images.{distance_positive}
@@ -18,10 +17,10 @@ use Rattle.ff_types.specs.FoldedPatterns.{IsFoldedPattern}
 use Rattle.ff_types.proofs.FoldedEdges.{ends_apart}
 use Rattle.ff_edges.specs.declared.extents.Extent.{Extent}
 use Rattle.ff_edges.specs.SharedSegments.{constrain}
-use Rattle.ff_edges.specs.Extents.{IsAround, IsRoundEdge, IsRoundInner, IsTouching, AreExtents, IsRoundAll, extent_at}
-use Rattle.ff_edges.proofs.OnWays.{both_of, on_from}
+use Rattle.ff_edges.specs.Extents.{IsAround, IsRoundEdge, IsRoundInner, IsTouching, AreExtents, IsRoundAll}
+use Rattle.ff_edges.proofs.OnWays.{both_of, on_from, not_left_on}
 use Rattle.ff_edges.proofs.PairLists.{both_inner}
-use Rattle.ff_edges.proofs.BesideFaces.{past_x, before_x, past_y, before_y, over_past_x, over_before_x, over_past_y, over_before_y, at_past_x, at_before_x, at_past_y, at_before_y, not_left_on}
+use Rattle.ff_edges.proofs.BesideFaces.{past_x, before_x, past_y, before_y, over_past_x, over_before_x, over_past_y, over_before_y, at_past_x, at_before_x, at_past_y, at_before_y}
 
 module _ (p q : Pt) (s : Place) (long : pos 0 <ℤ dot (minus q p) (minus q p)) (on : IsOn p q s) (a : Extent) (first : IsAround p a) (last : IsAround q a) where
   -- a place of an edge is within its extent

@@ -1,18 +1,14 @@
 -- No part of an edge is inside a face that it is beside.
-use Rattle.std.proofs.Common.{◌≡◌, ◌⊎◌, inl, inr, sym, ◌∙◌, ap, subst, arith, ℕ, ◌+◌, ◌*◌, ◌<◌, ◌≤◌, ℤ, pos, neg_ℤ, ◌-ℤ◌, ◌*ℤ◌, ◌<ℤ◌, ◌≤ℤ◌, IsTrue, refl, List, [], ◌∷◌, length}
-use lib.IntN.{*ℤ-zero}
-use Rattle.std.proofs.lemmas.Int.{ints, by_lt_z}
+use Rattle.std.proofs.Common.{◌≡◌, inl, inr, sym, subst, arith, ℕ, ◌<◌, ◌≤◌, ℤ, pos, neg_ℤ, ◌-ℤ◌, ◌*ℤ◌, ◌≤ℤ◌, refl, List, [], ◌∷◌, length}
+use Rattle.std.proofs.lemmas.Int.{ints}
 use Rattle.ff_whole.specs.declared.points.Pt.{Pt}
 use Rattle.ff_whole.specs.declared.lines.Line.{Line}
 use Rattle.ff_whole.specs.declared.places.Place.{Place}
-use Rattle.ff_whole.specs.Points.{minus, dot}
-use Rattle.ff_whole.specs.Places.{place_of, height, past, blend}
+use Rattle.ff_whole.specs.Places.{place_of, height, blend}
 use Rattle.ff_whole.specs.Convex.{point_at}
 use Rattle.ff_whole.proofs.Formulas.{point_e, point_env, place_e, place_env, place_of_e, height_e}
 use Rattle.ff_whole.proofs.Ring.{var, num, opp, ◌⊖◌, ◌⊗◌, solve}
-use Rattle.ff_whole.proofs.Signs.{linear, pos-mul, nonneg-mul_nonpos}
-use Rattle.ff_whole.proofs.Offsets.{height-ends}
-use Rattle.ff_whole.proofs.OnEdges.{IsOn}
+use Rattle.ff_whole.proofs.Signs.{linear}
 use Rattle.ff_whole.proofs.Images.{distance_positive}
 use Rattle.ff_types.specs.declared.patterns.Pattern.{Pattern}
 use Rattle.ff_types.specs.declared.faces.Faces.{Faces}
@@ -26,21 +22,10 @@ use Rattle.ff_types.specs.FoldedPatterns.{IsFoldedPattern}
 use Rattle.ff_types.proofs.FoldedEdges.{ends_apart}
 use Rattle.ff_edges.specs.declared.extents.Extent.{Extent}
 use Rattle.ff_edges.specs.Extents.{IsRoundEdge, IsRoundFace, IsBeside, AreExtents, IsRoundAll}
-use Rattle.ff_edges.proofs.OnWays.{both_of, on_from}
+use Rattle.ff_edges.proofs.OnWays.{both_of, on_from, not_left_on}
 use Rattle.ff_edges.proofs.FaceParts.{blend_place, blend_on}
 use Rattle.ff_edges.proofs.FaceSteps.{inner_of}
 use Rattle.ff_edges.proofs.StrictlyInside.{HasDirection, strictly_left}
-
--- a place of a way isn't left of a line that neither end is left of
-pub not_left_on : (l : Line) (p q : Pt) (m : Place) → pos 0 <ℤ dot (minus q p) (minus q p) → IsOn p q m
-    → height l (place_of p) ≤ℤ pos 0 → height l (place_of q) ≤ℤ pos 0 → height l m ≤ℤ pos 0
-not_left_on l p q m long h low high =
-    let e = height-ends l p q m in
-    let k = l.b *ℤ (q.x -ℤ p.x) -ℤ l.a *ℤ (q.y -ℤ p.y) in
-    let z = ap (λ z. k *ℤ z) h.on ∙ *ℤ-zero k in
-    let a = nonneg-mul_nonpos (past p q m) (height l (place_of q)) h.after high in
-    let b = nonneg-mul_nonpos (past q p m) (height l (place_of p)) h.before low in
-    by_lt_z (pos 0) (height l m) (λ up. let x = pos-mul (dot (minus q p) (minus q p)) (height l m) long up in absurd (omega (arith, linear))) (λ l. l)
 
 -- the lines from south to north and from west to east, with what is past them on the left
 abbrev pub past_x : ℤ → Line

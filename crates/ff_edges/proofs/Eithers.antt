@@ -27,6 +27,9 @@ ends_tell x h k l m t = subst (λ z. z) (λ i. IsTrue x ↔ Ends ((read w64 h tt
 pub both_tell : (x y : Bool) (P Q : Type 0) → IsTrue x ↔ P → IsTrue y ↔ Q → x ≡ true → IsTrue y ↔ (P × Q)
 both_tell x y P Q h k t = (λ u. (h.0 t, k.0 u), λ u. k.1 u.1)
 
+pub first_fails : (x : Bool) (P Q : Type 0) → IsTrue x ↔ P → x ≡ false → IsTrue x ↔ (P × Q)
+first_fails x P Q h f = (λ u. absurd (false≢true (sym f ∙ u)), λ u. h.1 u.0)
+
 -- neither ends before the other one begins
 abbrev pub Touch : ℤ → ℤ → ℤ → ℤ → Type 0
 Touch a_low a_high b_low b_high = (b_low ≤ℤ a_high) × (a_low ≤ℤ b_high)

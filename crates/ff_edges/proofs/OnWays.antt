@@ -3,7 +3,7 @@ use Rattle.std.proofs.Common.{◌≡◌, refl, ap, ◌∙◌, subst, arith, ◌+
 use lib.IntN.{neg_ℤ, *ℤ-zero, *ℤ_comm}
 use Rattle.std.specs.Prelude.{int_le}
 use Rattle.std.specs.Ordering.{int_eq}
-use Rattle.std.proofs.lemmas.Int.{ints}
+use Rattle.std.proofs.lemmas.Int.{ints, by_lt_z}
 use Rattle.std.proofs.lemmas.Bool.{false≢true}
 use Rattle.std.proofs.lemmas.Bool.Decides.{Decides-int_eq}
 use Rattle.ff_whole.specs.declared.points.Pt.{Pt}
@@ -15,10 +15,10 @@ use Rattle.ff_whole.specs.Places.{place_of, through, height, past}
 use Rattle.ff_whole.specs.Turning.{rank}
 use Rattle.ff_whole.proofs.Formulas.{point_e, point_env, line_e, line_env, place_e, place_env, place_of_e, minus_e, dot_e, through_e, height_e, past_e}
 use Rattle.ff_whole.proofs.Ring.{var, ◌⊕◌, ◌⊖◌, ◌⊗◌, opp, solve, solve_from}
-use Rattle.ff_whole.proofs.Signs.{linear, zero-mul, zero_from_mul, nonneg-mul, nonneg_from_mul}
+use Rattle.ff_whole.proofs.Signs.{linear, zero-mul, zero_from_mul, pos-mul, nonneg-mul, nonneg-mul_nonpos, nonneg_from_mul}
 use Rattle.ff_whole.proofs.ThreeTerms.{parallel-both}
 use Rattle.ff_whole.proofs.Turns.{height-through, height-back, turn-rotate, turn-swap}
-use Rattle.ff_whole.proofs.Offsets.{height-past}
+use Rattle.ff_whole.proofs.Offsets.{height-past, height-ends}
 use Rattle.ff_whole.proofs.OnEdges.{IsOn}
 use Rattle.ff_edges.specs.Ways.{is_on_way}
 
@@ -166,3 +166,16 @@ same_line p q a b s long h k on =
     let y : (l.b *ℤ (q.x -ℤ p.x) -ℤ l.a *ℤ (q.y -ℤ p.y)) *ℤ height (through p q) s ≡ pos 0 = ap (λ r. (l.b *ℤ (q.x -ℤ p.x) -ℤ l.a *ℤ (q.y -ℤ p.y)) *ℤ r) on ∙ *ℤ-zero (l.b *ℤ (q.x -ℤ p.x) -ℤ l.a *ℤ (q.y -ℤ p.y)) in
     let x : dd *ℤ s.w *ℤ height l (place_of p) ≡ pos 0 = ap (λ r. dd *ℤ s.w *ℤ r) (f ∙ h) ∙ *ℤ-zero (dd *ℤ s.w) in
     zero_from_mul dd (height l s) long (omega (arith, linear))
+
+-- ---- sides
+
+-- a place of a way isn't left of a line that neither end is left of
+pub not_left_on : (l : Line) (p q : Pt) (m : Place) → pos 0 <ℤ dot (minus q p) (minus q p) → IsOn p q m
+    → height l (place_of p) ≤ℤ pos 0 → height l (place_of q) ≤ℤ pos 0 → height l m ≤ℤ pos 0
+not_left_on l p q m long h low high =
+    let e = height-ends l p q m in
+    let k = l.b *ℤ (q.x -ℤ p.x) -ℤ l.a *ℤ (q.y -ℤ p.y) in
+    let z = ap (λ z. k *ℤ z) h.on ∙ *ℤ-zero k in
+    let a = nonneg-mul_nonpos (past p q m) (height l (place_of q)) h.after high in
+    let b = nonneg-mul_nonpos (past q p m) (height l (place_of p)) h.before low in
+    by_lt_z (pos 0) (height l m) (λ up. let x = pos-mul (dot (minus q p) (minus q p)) (height l m) long up in absurd (omega (arith, linear))) (λ l. l)

@@ -12,10 +12,11 @@ use Rattle.ff_whole.specs.Meeting.{HasNoDivisor}
 use Rattle.ff_whole.proofs.Bounds.{below-more, below_exactly, literal}
 use Rattle.ff_whole.proofs.Formulas.{point_e, point_env, place_e, place_env, place_of_e, past_e, minus_e, dot_e}
 use Rattle.ff_whole.proofs.Ring.{◌⊖◌, ◌⊗◌, solve}
+use Rattle.ff_whole.proofs.Signs.{linear}
 use Rattle.ff_whole.proofs.Images.{distance_positive}
 use Rattle.ff_edges.specs.Ways.{is_on_way}
-use Rattle.ff_edges.specs.Clips.{gap, IsEndOn, IsPart, IsWithin, AreLeftOf, IsClip, border_line, IsPartInside, IsNoneInside}
-use Rattle.ff_edges.proofs.OnWays.{on_from}
+use Rattle.ff_edges.specs.Clips.{gap, IsEndOn, IsPart, IsWithin, AreLeftOf, IsClip, border_line, IsPast, IsPartInside, IsNoneInside}
+use Rattle.ff_edges.proofs.OnWays.{on_from, not_left_on}
 use Rattle.ff_edges.proofs.Segments.{start_on, end_on}
 use Rattle.ff_edges.proofs.Clipping.{none_within}
 
@@ -86,3 +87,11 @@ module _ (points : List Pt) (up : Bool) (ring : List ℕ) (p q : Pt) where
   inside_nothing apart i s t l b e h low m positive on inner =
       none_within p q (distance_positive p q apart) l s t m h.part low.0 low.1 on
       (h.all m positive on (λ k c. inner k (omega (arith, b, c)))) (subst (λ j. pos 0 <ℤ height j m) (sym e) (inner i b))
+
+  -- no place of the way is inside where neither end is on the inner side of some edge
+  pub past_none : p ≢ q → (i : ℕ) → i < length ring → IsPast points up ring i p q → IsNoneInside points up ring p q
+  past_none apart i b past m positive on inner =
+      let l = border_line points up ring i in
+      let low = not_left_on l p q m (distance_positive p q apart) (on_from p q m on) past.0 past.1 in
+      let high = inner i b in
+      omega (arith, linear)

@@ -5,7 +5,7 @@ use Rattle.ff_whole.specs.declared.lines.Line.{Line}
 use Rattle.ff_whole.specs.declared.places.Place.{Place}
 use Rattle.ff_whole.specs.Sizes.{IsSmallPlace}
 use Rattle.ff_whole.specs.Convex.{point_at}
-use Rattle.ff_whole.specs.Places.{IsPlace, through, height, past}
+use Rattle.ff_whole.specs.Places.{IsPlace, place_of, through, height, past}
 use Rattle.ff_whole.specs.Meeting.{HasNoDivisor}
 use Rattle.ff_types.specs.Rings.{corner, after}
 use Rattle.ff_edges.specs.Ways.{is_on_way}
@@ -46,6 +46,10 @@ pub record IsClip (p q : Pt) (l : Line) (s t u v : Place) : Type 0 where
   pub keeps : (k : Line) → AreLeftOf k s t → AreLeftOf k u v
   pub all : (m : Place) → IsPlace m → IsTrue (is_on_way p q m) → pos 0 <ℤ height l m → IsWithin p q s t m → IsWithin p q u v m
 
+-- neither point is left of the line
+abbrev pub AreNotLeft : Line → Pt → Pt → Type 0
+AreNotLeft l p q = (height l (place_of p) ≤ℤ pos 0) × (height l (place_of q) ≤ℤ pos 0)
+
 -- the line through the images of two vertices, with the inner side of a face on its left: the face goes from the first
 -- to the second, and lies up or down
 abbrev pub inner_line : List Pt → Bool → ℕ → ℕ → Line
@@ -55,6 +59,10 @@ inner_line points false u v = through (point_at points v) (point_at points u)
 -- the line of the ring's edge at a place
 abbrev pub border_line : List Pt → Bool → List ℕ → ℕ → Line
 border_line points up ring k = inner_line points up (corner ring k) (after ring k)
+
+-- neither end of the way from p to q is on the inner side of the ring's edge at a place
+abbrev pub IsPast : List Pt → Bool → List ℕ → ℕ → Pt → Pt → Type 0
+IsPast points up ring k p q = AreNotLeft (border_line points up ring k) p q
 
 -- the place is strictly on the inner side of the first n edges of the ring
 abbrev pub IsInnerTo : List Pt → Bool → List ℕ → ℕ → Place → Type 0

@@ -87,7 +87,7 @@ fn append_row(
     requires folded { IsFoldedPattern pattern.now faces.now folded.now }
     requires edge { e < length pattern.now.edges }
     requires extents { AreExtents (IsRoundInner (sheet_of pattern.now faces.now folded.now)) (length pattern.now.edges) extents.now }
-    requires blocks { AreBlocks extents.now blocks.now }
+    requires blocks_are { AreBlocks extents.now blocks.now }
     requires listed { ArePairsTo (sheet_of pattern.now faces.now folded.now) e 0 list.old.items }
     requires few { length list.old.items ≤ most_constraints }
     ensures listed { OnOk result (ArePairsTo (sheet_of pattern.now faces.now folded.now) (e + 1) 0 list.new.items) }

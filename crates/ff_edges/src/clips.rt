@@ -2,12 +2,13 @@
 ghost use Rattle.std.specs.Prelude.{pos, ◌≡◌, ◌≢◌, ◌<◌, ◌<ℤ◌, ◌≤ℤ◌, ◌↔◌, ℕ, length, IsTrue, MatchOption};
 ghost use Rattle.std.specs.List.{All};
 ghost use Rattle.ff_whole.specs.Points.{IsNear};
-ghost use Rattle.ff_whole.specs.Places.{height, place_of as place};
+ghost use Rattle.ff_whole.specs.Places.{height, place_of as place, through as line_through};
 ghost use Rattle.ff_whole.specs.Convex.{point_at};
 ghost use Rattle.ff_whole.specs.Sizes.{IsLine, IsSmallPlace};
 ghost use Rattle.ff_types.specs.Rings.{corner, after};
-ghost use Rattle.ff_edges.specs.Clips.{IsPart, IsClip, IsPartInside, IsNoneInside, border_line};
+ghost use Rattle.ff_edges.specs.Clips.{IsPart, IsClip, IsPartInside, IsNoneInside, AreNotLeft, IsPast, border_line};
 
+use crate::sides::is_on_or_left;
 use ff_whole::{Line, Place, Pt, meet, next_place, side_of, through};
 
 fn place_of(p: Pt) -> Place
@@ -114,6 +115,52 @@ fn border_of(points: &[Pt], up: bool, ring: &[u32], i: usize) -> Line
     if up { through(u, v) } else { through(v, u) }
 }
 
+// Whether neither `p` nor `q` is left of the way from `u` to `v`.
+fn are_not_left(u: Pt, v: Pt, p: Pt, q: Pt) -> bool
+    requires u_near { IsNear u }
+    requires v_near { IsNear v }
+    requires p_near { IsNear p }
+    requires q_near { IsNear q }
+    ensures { IsTrue result ↔ AreNotLeft (line_through u v) p q }
+{
+    is_on_or_left(v, u, p) && is_on_or_left(v, u, q)
+}
+
+// Whether neither `p` nor `q` is on the inner side of the ring's edge at the place `i`.
+fn are_past(points: &[Pt], up: bool, ring: &[u32], i: usize, p: Pt, q: Pt) -> bool
+    requires near { All IsNear points.now }
+    requires below { All (λ v. v < length points.now) ring.now }
+    requires within { i < length ring.now }
+    requires p_near { IsNear p }
+    requires q_near { IsNear q }
+    ensures { IsTrue result ↔ IsPast points.now up ring.now i p q }
+{
+    let u = points[ring[i] as usize];
+    let v = points[ring[next_place(ring.len(), i)] as usize];
+    if up {
+        are_not_left(u, v, p, q)
+    } else {
+        are_not_left(v, u, p, q)
+    }
+}
+
+// Whether that is so at any of its edges. A quick test: no place of the way is inside then.
+fn are_outside(points: &[Pt], up: bool, ring: &[u32], p: Pt, q: Pt) -> bool
+    requires near { All IsNear points.now }
+    requires below { All (λ v. v < length points.now) ring.now }
+    requires p_near { IsNear p }
+    requires q_near { IsNear q }
+    requires apart { p ≢ q }
+    ensures { IsTrue result → IsNoneInside points.now up ring.now p q }
+{
+    for i in 0..ring.len() {
+        if are_past(points, up, ring, i, p, q) {
+            return true;
+        }
+    }
+    false
+}
+
 /// The ends of what of the way from `p` to `q` is inside a face that lies up or down, the first nearer to `p`. None
 /// exactly where no place of the way is inside.
 pub fn part_inside(points: &[Pt], up: bool, ring: &[u32], p: Pt, q: Pt) -> Option<(Place, Place)>
@@ -126,6 +173,9 @@ pub fn part_inside(points: &[Pt], up: bool, ring: &[u32], p: Pt, q: Pt) -> Optio
     ensures { MatchOption result (IsNoneInside points.now up ring.now p q)
         (λ way. IsPartInside points.now up ring.now (length ring.now) p q way.0 way.1) }
 {
+    if are_outside(points, up, ring, p, q) {
+        return None;
+    }
     let mut way = (place_of(p), place_of(q));
     for i in 0..ring.len() {
         let border = border_of(points, up, ring, i);

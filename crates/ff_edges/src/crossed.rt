@@ -142,7 +142,7 @@ fn append_faces(
     requires folded { IsFoldedPattern pattern.now faces.now folded.now }
     requires edge { e < length pattern.now.edges }
     requires extents { AreExtents (IsRoundFace (sheet_of pattern.now faces.now folded.now)) (length faces.now.rings) extents.now }
-    requires blocks { AreBlocks extents.now blocks.now }
+    requires blocks_are { AreBlocks extents.now blocks.now }
     requires listed { AreFacesTo (sheet_of pattern.now faces.now folded.now) e 0 list.old.items }
     requires few { length list.old.items ≤ most_constraints }
     ensures listed { OnOk result (AreFacesTo (sheet_of pattern.now faces.now folded.now) (e + 1) 0 list.new.items) }

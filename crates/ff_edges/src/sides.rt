@@ -6,7 +6,8 @@ ghost use Rattle.ff_edges.specs.Ways.{are_left, are_right};
 
 use ff_whole::{Pt, orient};
 
-fn is_on_or_left(p: Pt, q: Pt, r: Pt) -> bool
+/// Whether `r` isn't right of the way from `p` to `q`.
+pub fn is_on_or_left(p: Pt, q: Pt, r: Pt) -> bool
     requires p_near { IsNear p }
     requires q_near { IsNear q }
     requires r_near { IsNear r }

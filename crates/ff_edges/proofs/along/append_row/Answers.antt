@@ -1,4 +1,4 @@
-use Rattle.std.proofs.Common.{◌≡◌, ◌+◌, ◌*◌, ◌/◌, arith, subst, length, sym, ◌∙◌}
+use Rattle.std.proofs.Common.{◌≡◌, ◌+◌, ◌*◌, ◌/◌, arith, subst, sym, ◌∙◌}
 use Rattle.std.proofs.lemmas.Bool.{false≢true}
 use Rattle.ff_types.specs.Sheets.{sheet_of}
 use Rattle.ff_edges.specs.declared.extents.TheConstants.{BLOCK}
@@ -25,7 +25,7 @@ loop-b-preserved-then-not-is_touching c =
     let b = c.loop-b.b in
     record {
       listed = pairs_skip_to (sheet_of c.args.pattern.now c.args.faces.now c.args.folded.now) c.args.e (BLOCK * b) (BLOCK * (b + 1)) c.loop-b.list.items (omega arith)
-          (λ k low l order edge. block_apart_none r.folded c.args.e (BLOCK * b) (BLOCK * b + BLOCK) (extent_at c.args.extents.now c.args.e) (extent_at c.args.blocks.now b) c.args.extents.now r.edge r.extents (r.blocks.each.round b c.loop-b-test.true)
+          (λ k low l order edge. block_apart_none r.folded c.args.e (BLOCK * b) (BLOCK * b + BLOCK) (extent_at c.args.extents.now c.args.e) (extent_at c.args.blocks.now b) c.args.extents.now r.edge r.extents (r.blocks_are.each.round b c.loop-b-test.true)
           (r.extents.round c.args.e r.edge) (λ t. false≢true (sym c.if-not-is_touching.true ∙ c.is_touching.ensures.1 t)) k low (omega (arith, l)) edge)
           v.listed;
       few = v.few;
@@ -41,6 +41,6 @@ loop-b-preserved c =
 pub returns-clause-listed : goal.returns-clause-listed
 returns-clause-listed c =
     let n = c.requires.extents.count in
-    let m = c.requires.blocks.count in
+    let m = c.requires.blocks_are.count in
     let test = c.loop-b-test.false in
     pairs_end (sheet_of c.args.pattern.now c.args.faces.now c.args.folded.now) c.args.e (BLOCK * c.loop-b.b) c.loop-b.list.items (omega (arith, n, m, test)) c.loop-b.invariant.listed

@@ -1,4 +1,4 @@
-use Rattle.std.proofs.Common.{◌≡◌, ◌+◌, ◌*◌, ◌≤◌, subst, arith, length, ◌∙◌, sym}
+use Rattle.std.proofs.Common.{◌≡◌, ◌+◌, ◌*◌, subst, arith, ◌∙◌, sym}
 use Rattle.ff_types.specs.Sheets.{sheet_of}
 use Rattle.ff_edges.specs.declared.extents.TheConstants.{BLOCK}
 use Rattle.ff_edges.specs.EdgesInside.{AreFacesTo}
@@ -18,7 +18,7 @@ loop-b-preserved-then-is_beside c =
     let x = c.edge_reach-reach.ensures in
     record {
       listed = faces_skip_to (sheet_of c.args.pattern.now c.args.faces.now c.args.folded.now) c.args.e (BLOCK * b) (BLOCK * (b + 1)) c.loop-b.list.items (omega arith)
-          (λ f low l face. block_none r.folded c.args.e (BLOCK * b) (BLOCK * b + BLOCK) c.edge_reach-reach.result.extent (extent_at c.args.blocks.now b) c.args.extents.now r.edge r.extents (r.blocks.each.round b c.loop-b-test.true) x.round (c.is_beside.ensures.0 c.if-is_beside.true) f low (omega (arith, l)) face)
+          (λ f low l face. block_none r.folded c.args.e (BLOCK * b) (BLOCK * b + BLOCK) c.edge_reach-reach.result.extent (extent_at c.args.blocks.now b) c.args.extents.now r.edge r.extents (r.blocks_are.each.round b c.loop-b-test.true) x.round (c.is_beside.ensures.0 c.if-is_beside.true) f low (omega (arith, l)) face)
           v.listed;
       few = v.few;
     }
@@ -36,6 +36,6 @@ loop-b-preserved c =
 pub returns-clause-listed : goal.returns-clause-listed
 returns-clause-listed c =
     let n = c.requires.extents.count in
-    let m = c.requires.blocks.count in
+    let m = c.requires.blocks_are.count in
     let test = c.loop-b-test.false in
     faces_end (sheet_of c.args.pattern.now c.args.faces.now c.args.folded.now) c.args.e (BLOCK * c.loop-b.b) c.loop-b.list.items (omega (arith, n, m, test)) c.loop-b.invariant.listed

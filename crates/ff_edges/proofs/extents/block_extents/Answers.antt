@@ -1,4 +1,4 @@
-use Rattle.std.proofs.Common.{ℕ, ◌+◌, ◌*◌, List, arith, subst}
+use Rattle.std.proofs.Common.{ℕ, ◌+◌, ◌*◌, List, arith}
 use Rattle.ff_edges.specs.declared.extents.Extent.{Extent}
 use Rattle.ff_edges.specs.declared.extents.TheConstants.{BLOCK}
 use Rattle.ff_edges.specs.Extents.{IsRoundAll}
