@@ -8,7 +8,7 @@ use Rattle.ff_types.specs.Faces.{ring_at}
 use Rattle.ff_types.specs.Sheets.{Sheet, tail, head}
 use Rattle.ff_edges.specs.EdgesInside.{is_inner_edge}
 use Rattle.ff_edges.specs.declared.extents.Extent.{Extent}
-use Rattle.ff_edges.specs.declared.extents.TheConstants.{BLOCK}
+use Rattle.ff_edges.specs.declared.blocks.TheConstants.{BLOCK}
 
 -- within the limits
 pub record IsExtent (a : Extent) : Type 0 where

@@ -9,7 +9,9 @@ ghost use Rattle.ff_edges.specs.SharedSegments.{ArePairsTo, AreEdgePairs, AreNoE
 
 use crate::EdgePair;
 use crate::append::append;
-use crate::extents::{BLOCK, Extent, block_end, block_extents, inner_extents, is_touching};
+use crate::blocks::{BLOCK, block_end, block_extents};
+use crate::extents::{Extent, is_touching};
+use crate::reaches::inner_extents;
 use crate::shared::{is_inner, shared_segment};
 use ff_tables::Items;
 use ff_types::{Faces, Folded, No, Pattern};

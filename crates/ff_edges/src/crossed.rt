@@ -14,11 +14,11 @@ ghost use Rattle.ff_edges.specs.EdgesInside.{is_inner_edge, IsEdgeFace, AreFaces
 use crate::EdgeFace;
 use crate::append::append;
 use crate::beside::ends;
+use crate::blocks::{BLOCK, block_end, block_extents};
 use crate::clips::part_inside;
 use crate::common::{earlier, later};
-use crate::extents::{
-    BLOCK, Extent, Reach, block_end, block_extents, edge_reach, face_extents, is_beside,
-};
+use crate::extents::{Extent, is_beside};
+use crate::reaches::{Reach, edge_reach, face_extents};
 use crate::shared::is_inner;
 use ff_tables::Items;
 use ff_types::{Faces, Folded, No, Pattern};

@@ -4,6 +4,7 @@
 mod along;
 mod append;
 mod beside;
+mod blocks;
 mod clips;
 mod common;
 mod crossed;
@@ -11,6 +12,7 @@ mod edge_face;
 mod edge_pair;
 mod extents;
 mod marks;
+mod reaches;
 mod shared;
 mod sides;
 

@@ -1,7 +1,7 @@
 use Rattle.std.proofs.Common.{◌≡◌, ◌+◌, ◌*◌, ◌/◌, arith, subst, sym, ◌∙◌}
 use Rattle.std.proofs.lemmas.Bool.{false≢true}
 use Rattle.ff_types.specs.Sheets.{sheet_of}
-use Rattle.ff_edges.specs.declared.extents.TheConstants.{BLOCK}
+use Rattle.ff_edges.specs.declared.blocks.TheConstants.{BLOCK}
 use Rattle.ff_edges.specs.SharedSegments.{ArePairsTo}
 use Rattle.ff_edges.specs.Extents.{extent_at}
 use Rattle.ff_edges.proofs.ApartEdges.{block_apart_none}

@@ -1,6 +1,6 @@
 use Rattle.std.proofs.Common.{◌+◌, ◌*◌, ◌<◌, length, arith}
 use Rattle.ff_types.specs.Sheets.{sheet_of}
-use Rattle.ff_edges.specs.declared.extents.TheConstants.{BLOCK}
+use Rattle.ff_edges.specs.declared.blocks.TheConstants.{BLOCK}
 use Rattle.ff_edges.specs.Extents.{extent_at}
 use Rattle.ff_edges.proofs.BesideFaces.{beside_none}
 use Rattle.ff_edges.proofs.FaceLists.{faces_skip, faces_skip_to}

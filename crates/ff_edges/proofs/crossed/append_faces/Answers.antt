@@ -1,6 +1,6 @@
 use Rattle.std.proofs.Common.{◌≡◌, ◌+◌, ◌*◌, subst, arith, ◌∙◌, sym}
 use Rattle.ff_types.specs.Sheets.{sheet_of}
-use Rattle.ff_edges.specs.declared.extents.TheConstants.{BLOCK}
+use Rattle.ff_edges.specs.declared.blocks.TheConstants.{BLOCK}
 use Rattle.ff_edges.specs.EdgesInside.{AreFacesTo}
 use Rattle.ff_edges.specs.Extents.{extent_at}
 use Rattle.ff_edges.proofs.BesideFaces.{block_none}

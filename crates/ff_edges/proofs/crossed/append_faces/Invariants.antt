@@ -1,7 +1,7 @@
 use Rattle.std.proofs.Common.{◌*◌, ◌≤◌, length}
 use Rattle.ff_types.specs.Sheets.{sheet_of}
 use Rattle.ff_types.specs.declared.limits.TheConstants.{MOST_CONSTRAINTS}
-use Rattle.ff_edges.specs.declared.extents.TheConstants.{BLOCK}
+use Rattle.ff_edges.specs.declared.blocks.TheConstants.{BLOCK}
 use Rattle.ff_edges.specs.EdgesInside.{AreFacesTo}
 use Rattle.ff_edges.proofs.crossed.append_faces.Given as goal
 

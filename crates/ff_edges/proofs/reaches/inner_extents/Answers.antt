@@ -1,7 +1,7 @@
 use Rattle.ff_types.specs.Sheets.{sheet_of}
 use Rattle.ff_edges.specs.Extents.{IsRoundInner}
 use Rattle.ff_edges.proofs.ExtentLists.{extents_more}
-use Rattle.ff_edges.proofs.extents.inner_extents.Goals as goal
+use Rattle.ff_edges.proofs.reaches.inner_extents.Goals as goal
 
 pub loop-e-preserved : goal.loop-e-preserved
 loop-e-preserved c =

@@ -4,7 +4,7 @@ use Rattle.ff_whole.specs.Points.{origin}
 use Rattle.ff_types.specs.Rings.{corner}
 use Rattle.ff_edges.specs.Extents.{IsAround}
 use Rattle.ff_edges.proofs.ExtentLists.{round_more}
-use Rattle.ff_edges.proofs.extents.ring_extent.Goals as goal
+use Rattle.ff_edges.proofs.reaches.ring_extent.Goals as goal
 
 pub loop-i-preserved : goal.loop-i-preserved
 loop-i-preserved c =

@@ -1,6 +1,6 @@
 use Rattle.std.proofs.Common.{arith}
 use Rattle.ff_edges.proofs.ExtentLists.{all_more}
-use Rattle.ff_edges.proofs.extents.block_extent.Goals as goal
+use Rattle.ff_edges.proofs.blocks.block_extent.Goals as goal
 
 pub loop-k-preserved : goal.loop-k-preserved
 loop-k-preserved c =

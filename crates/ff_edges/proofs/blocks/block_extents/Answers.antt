@@ -1,9 +1,9 @@
 use Rattle.std.proofs.Common.{ℕ, ◌+◌, ◌*◌, List, arith}
 use Rattle.ff_edges.specs.declared.extents.Extent.{Extent}
-use Rattle.ff_edges.specs.declared.extents.TheConstants.{BLOCK}
+use Rattle.ff_edges.specs.declared.blocks.TheConstants.{BLOCK}
 use Rattle.ff_edges.specs.Extents.{IsRoundAll}
 use Rattle.ff_edges.proofs.ExtentLists.{extents_more}
-use Rattle.ff_edges.proofs.extents.block_extents.Goals as goal
+use Rattle.ff_edges.proofs.blocks.block_extents.Goals as goal
 
 round_at : (list : List Extent) (b : ℕ) (a : Extent) → IsRoundAll list (b * BLOCK) (b * BLOCK + BLOCK) a → IsRoundAll list (BLOCK * b) (BLOCK * b + BLOCK) a
 round_at list b a h k low l m = h k (omega (arith, low)) (omega (arith, l)) m

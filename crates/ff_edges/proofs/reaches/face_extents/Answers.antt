@@ -1,7 +1,7 @@
 use Rattle.ff_types.specs.Sheets.{sheet_of}
 use Rattle.ff_edges.specs.Extents.{IsRoundFace}
 use Rattle.ff_edges.proofs.ExtentLists.{extents_more}
-use Rattle.ff_edges.proofs.extents.face_extents.Goals as goal
+use Rattle.ff_edges.proofs.reaches.face_extents.Goals as goal
 
 pub loop-f-preserved : goal.loop-f-preserved
 loop-f-preserved c =

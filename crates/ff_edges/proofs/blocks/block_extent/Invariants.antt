@@ -1,5 +1,5 @@
 use Rattle.ff_edges.specs.Extents.{IsExtent, IsRoundAll}
-use Rattle.ff_edges.proofs.extents.block_extent.Given as goal
+use Rattle.ff_edges.proofs.blocks.block_extent.Given as goal
 
 abbrev pub invariant-loop-k : goal.invariant-loop-k
 invariant-loop-k l = record {

@@ -1,5 +1,5 @@
 use Rattle.ff_edges.specs.Extents.{IsExtent, AreRound}
-use Rattle.ff_edges.proofs.extents.ring_extent.Given as goal
+use Rattle.ff_edges.proofs.reaches.ring_extent.Given as goal
 
 abbrev pub invariant-loop-i : goal.invariant-loop-i
 invariant-loop-i l = record {

@@ -4,7 +4,7 @@ use Rattle.std.proofs.lemmas.List.{get_or_default}
 use Rattle.ff_whole.specs.Points.{IsNear}
 use Rattle.ff_types.specs.Faces.{ring_at}
 use Rattle.ff_types.proofs.FoldedEdges.{images_near, ring_below}
-use Rattle.ff_edges.proofs.extents.face_extent.Goals as goal
+use Rattle.ff_edges.proofs.reaches.face_extent.Goals as goal
 
 pub ring_extent-requires-clause-near : goal.ring_extent-requires-clause-near
 ring_extent-requires-clause-near c = subst (λ ps. All IsNear ps) (sym c.as_slice-3.ensures) (images_near c.requires.folded)
