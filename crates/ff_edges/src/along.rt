@@ -41,7 +41,8 @@ fn append_shared(
     }
 }
 
-// Appends the pairs of the edge with the edges of the block that come after it.
+// Appends the pairs of the edge with the edges of the block that come after it. Those that it doesn't touch are passed
+// over.
 fn append_block(
     list: &mut Vec<EdgePair>,
     pattern: &Pattern,
@@ -76,7 +77,7 @@ fn append_block(
     Ok(())
 }
 
-// Appends the pairs of the edge with the edges after it.
+// Appends the pairs of the edge with the edges after it. Whole blocks that it doesn't touch are passed over.
 fn append_row(
     list: &mut Vec<EdgePair>,
     pattern: &Pattern,

@@ -96,7 +96,7 @@ fn append_face(
     }
 }
 
-// Appends the edge with each face of the block that it has a part inside of.
+// Appends the edge with each face of the block that it has a part inside of. Those that it is beside are passed over.
 fn append_block(
     list: &mut Vec<EdgeFace>,
     pattern: &Pattern,
@@ -129,7 +129,7 @@ fn append_block(
     Ok(())
 }
 
-// Appends the edge with each face that it has a part inside of.
+// Appends the edge with each face that it has a part inside of. Whole blocks that it is beside are passed over.
 fn append_faces(
     list: &mut Vec<EdgeFace>,
     pattern: &Pattern,
