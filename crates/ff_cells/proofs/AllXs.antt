@@ -1,11 +1,10 @@
 -- The x of all points in order: none is between two neighbours.
-use Rattle.std.proofs.Common.{ℕ, zero, suc, ◌≡◌, ◌⊎◌, inl, inr, ◌+◌, ◌-◌, ◌<◌, ◌≤◌, List, [], ◌∷◌, map, length, get_or, arith, refl, sym, ap, subst, ◌∙◌, ℤ, pos, ◌<ℤ◌, ◌≤ℤ◌, false, true≢false, Ordering}
-use Rattle.std.proofs.Common.Ordering.{Less, Equal, Greater}
-use Rattle.std.specs.Ordering.{int_cmp, is_lt, MatchOrdering}
-use Rattle.std.specs.Cmp.{int_ranks}
+use Rattle.std.proofs.Common.{ℕ, zero, suc, ◌≡◌, ◌⊎◌, inl, inr, ◌+◌, ◌-◌, ◌<◌, ◌≤◌, List, [], ◌∷◌, map, length, get_or, arith, refl, sym, ap, subst, ◌∙◌, ℤ, pos, ◌≤ℤ◌}
+use Rattle.std.specs.Ordering.{int_cmp}
 use Rattle.std.specs.List.{All, Contains}
 use Rattle.std.proofs.lemmas.Int.{ints}
 use Rattle.std.proofs.lemmas.List.{get_or_default}
+use Rattle.std.specs.List.Sorted.{IsSorted}
 use Rattle.std.proofs.lemmas.List.Sorted.{Contains-permutation, IsPermutation-sym}
 use Rattle.ff_whole.specs.declared.points.Pt.{Pt}
 use Rattle.ff_whole.specs.declared.sizes.TheConstants.{POINT_SIZE}
@@ -14,6 +13,7 @@ use Rattle.ff_whole.specs.Points.{IsNear, origin}
 use Rattle.ff_whole.specs.Convex.{point_at}
 use Rattle.ff_types.proofs.Memberships.{in_map, first_member, later_member}
 use Rattle.ff_cells.specs.Xs.{AreXs}
+use Rattle.ff_cells.proofs.Reached.{not_lower}
 
 map_in : {A B : Type 0} (f : A → B) (xs : List A) (k : ℕ) (d : A) → k < length xs
     → Contains (map f xs) (f (get_or xs k d))
@@ -22,19 +22,17 @@ map_in f (x ∷ xs) zero d lt = first_member (f x) (map f xs) (f x) refl
 map_in f (x ∷ xs) (suc k) d lt = later_member (f x) (map f xs) (f (get_or xs k d))
     (map_in f xs k d (omega (arith, lt)))
 
+pub rises : (xs : List ℤ) → IsSorted int_cmp xs → (k : ℕ) → k + 1 < length xs
+    → get_or xs k (pos 0) ≤ℤ get_or xs (k + 1) (pos 0)
+rises xs sorted k lt = not_lower (get_or xs k (pos 0)) (get_or xs (k + 1) (pos 0))
+    (sorted k (pos 0) (omega arith) lt)
+
 module _ {points : List Pt} {xs : List ℤ} (are : AreXs points xs) where
   abbrev pub at : ℕ → ℤ
   at k = get_or xs k (pos 0)
 
   next_up : (k : ℕ) → k + 1 < length xs → at k ≤ℤ at (k + 1)
-  next_up k lt = up (int_cmp (at (k + 1)) (at k)) (int_ranks (at (k + 1)) (at k))
-      (are.sorted k (pos 0) (omega arith) lt)
-    where
-      up : (r : Ordering) → MatchOrdering r (at (k + 1) <ℤ at k) (at (k + 1) ≡ at k) (at k <ℤ at (k + 1))
-          → is_lt r ≡ false → at k ≤ℤ at (k + 1)
-      up Less m e = absurd (true≢false e)
-      up Equal m e = omega (arith, ints, m)
-      up Greater m e = omega (arith, ints, m)
+  next_up = rises xs are.sorted
 
   pub up : (n i : ℕ) → i + n < length xs → at i ≤ℤ at (i + n)
   up zero i lt = let e : i + 0 ≡ i = omega arith in subst (λ j. at i ≤ℤ at j) (sym e) (omega (arith, ints))

@@ -13,6 +13,7 @@ pub mod Emitting
 pub mod Sweeping
 pub mod Exact
 pub mod Strips
+pub mod Reached
 pub mod Stepping
 pub mod FaceRings
 pub mod Faces

@@ -9,6 +9,7 @@ pub mod Pass
 pub mod Emits
 pub mod Swept
 pub mod Strip
+pub mod Reached
 pub mod Steps
 pub mod Tally
 pub mod Stopped

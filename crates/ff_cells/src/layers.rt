@@ -8,10 +8,14 @@ ghost use Rattle.ff_cells.specs.declared.limits.TheConstants.{MOST_CELLS as most
 ghost use Rattle.ff_cells.specs.declared.limits.TheConstants.{MOST_ENTRIES as most_entries};
 ghost use Rattle.ff_cells.specs.FaceSets.{HaveFaceSets, IsFaceList};
 ghost use Rattle.ff_cells.specs.SlabCells.{AreCells, AreNoCells};
+ghost use Rattle.ff_cells.specs.Reached.{AreFromLeft};
+ghost use Rattle.ff_cells.specs.Steps.{AreBars};
 ghost use Rattle.ff_cells.specs.Tally.{entries_of};
 ghost use Rattle.ff_cells.specs.Xs.{AreXs, AreFound};
 
+use crate::bars::Bar;
 use crate::found::Found;
+use crate::reaching::sort_from_left;
 use crate::steps::bars_of;
 use crate::sweep::{strips, too_many};
 use crate::{Cell, MOST_ENTRIES};
@@ -35,6 +39,17 @@ fn all_xs(alloc: Global, points: &[Pt]) -> Result<Vec<i64>, NoMemory>
     Ok(xs)
 }
 
+// The bars of all faces, from left to right.
+fn bars_from_left(alloc: Global, faces: &Faces, folded: &Folded) -> Result<Vec<Bar>, NoMemory>
+    requires { (pattern : PatternRow) × IsFoldedPattern pattern faces.now folded.now }
+    ensures are { IfOk result (λ bars. AreBars folded.now.points faces.now.rings folded.now.up bars.items) }
+    ensures from_left { IfOk result (λ bars. AreFromLeft bars.items) }
+{
+    let mut bars = bars_of(alloc, faces, folded)?;
+    sort_from_left(&mut bars)?;
+    Ok(bars)
+}
+
 // The cells of all slabs.
 fn swept(alloc: Global, faces: &Faces, folded: &Folded) -> Result<Found, No>
     requires { (pattern : PatternRow) × IsFoldedPattern pattern faces.now folded.now }
@@ -43,7 +58,7 @@ fn swept(alloc: Global, faces: &Faces, folded: &Folded) -> Result<Found, No>
         → IsFoldedPattern pattern faces.now folded.now
         → AreNoCells (sheet_of pattern faces.now folded.now) no) }
 {
-    let bars = bars_of(alloc, faces, folded)?;
+    let bars = bars_from_left(alloc, faces, folded)?;
     let xs = all_xs(alloc, folded.points.as_slice())?;
     strips(alloc, bars.as_slice(), xs.as_slice())
 }

@@ -1,6 +1,7 @@
 //! The folded sheet as layers: over every place, exactly which faces lie there.
 #![tactic(auto)]
 
+mod active;
 mod adding;
 mod bars;
 mod border;
@@ -10,6 +11,7 @@ mod found;
 mod laws;
 mod layers;
 mod limits;
+mod reaching;
 mod slab;
 mod steps;
 mod sweep;

@@ -5,7 +5,9 @@ ghost use Rattle.ff_types.specs.declared.refusals.No.TheVariants.{Refused};
 ghost use Rattle.ff_types.specs.declared.refusals.Refusal.TheVariants.{TooMany};
 ghost use Rattle.ff_cells.specs.Tally.{Adds, StaysFew};
 ghost use Rattle.ff_cells.specs.Stopped.{IsStopped, IsSweptBetween, AreSwept, AreStopped};
-ghost use Rattle.ff_cells.specs.Strip.{spans_strip, at_x};
+ghost use Rattle.ff_cells.specs.Strip.{spans_strip, at_x, x_at};
+ghost use Rattle.ff_cells.specs.Reached.{AreFromLeft, AreActive};
+ghost use Rattle.std.specs.Ordering.{int_cmp};
 ghost use Rattle.std.specs.Prelude.{◌-◌};
 ghost use Rattle.std.specs.List.{All};
 ghost use Rattle.ff_whole.specs.Sizes.{IsBelow};
@@ -13,15 +15,17 @@ ghost use Rattle.ff_whole.specs.declared.sizes.TheConstants.{POINT_SIZE};
 ghost use Rattle.ff_cells.specs.declared.cell.Cell.{Cell as CellRow};
 ghost use Rattle.ff_cells.specs.Before.{x_before};
 ghost use Rattle.ff_cells.specs.Swept.{IsSwept, IsSlabOf};
-ghost use Rattle.std.specs.List.Sorted.{IsPermutation};
+ghost use Rattle.std.specs.List.Sorted.{IsPermutation, IsSorted};
 ghost use Rattle.ff_whole.specs.declared.places.Place.{Place as PlaceRow};
 ghost use Rattle.ff_cells.specs.Gap.{run};
 ghost use Rattle.ff_cells.specs.Next.{StartsUp, IsNext};
 
 use crate::MOST_CELLS;
+use crate::active::Active;
 use crate::bars::{Bar, crossing, sort_bars};
 use crate::border::Border;
 use crate::found::Found;
+use crate::reaching::{copied, enter};
 use crate::slab::slab;
 use ff_tables::NoMemory;
 use ff_types::{No, Refusal, What};
@@ -95,18 +99,6 @@ pub fn strip(
     Ok(())
 }
 
-// The bars that span the strip from `a` to `c`.
-pub fn spanning(alloc: Global, bars: &[Bar], a: i64, c: i64) -> Result<Vec<Bar>, NoMemory>
-    ensures { IfOk result (λ v. v.items ≡ filter (spans_strip a c) bars.now) }
-{
-    Ok(
-        bars.iter()
-            .filter(|b| b.lo.x <= a && c <= b.hi.x)
-            .copied()
-            .collect(alloc)?,
-    )
-}
-
 // The border at a whole x.
 fn border_at(x: i64) -> Border
     requires { IsBelow POINT_SIZE x }
@@ -122,35 +114,60 @@ fn border_at(x: i64) -> Border
 }
 
 // Adds the cells of the slabs between two neighbours of all x.
-fn between(alloc: Global, bars: &[Bar], a: i64, c: i64, found: &mut Found) -> Result<(), No>
+fn between(
+    alloc: Global,
+    bars: &[Bar],
+    a: i64,
+    c: i64,
+    active: &mut Active,
+    found: &mut Found,
+) -> Result<(), No>
     requires a_near { IsBelow POINT_SIZE a }
     requires c_near { IsBelow POINT_SIZE c }
+    requires from_left { AreFromLeft bars.now }
+    requires rising { a ≤ℤ c }
+    requires reached { AreActive bars.now a a active.old }
     ensures done { OnOk result (IsSweptBetween bars.now a c found.old found.new) }
+    ensures kept { OnOk result (AreActive bars.now c c active.new) }
     ensures stopped { IfErr result (IsStopped (filter (spans_strip a c) bars.now) (at_x a)
         (at_x c) found.old) }
 {
     if a >= c {
         return Ok(());
     }
-    let active = spanning(alloc, bars, a, c)?;
-    strip(alloc, active, border_at(a), border_at(c), found)
+    enter(alloc, active, bars, a, c)?;
+    let spanning = copied(alloc, active.bars.as_slice())?;
+    strip(alloc, spanning, border_at(a), border_at(c), found)
 }
 
 // Adds the cells of the strip that ends at the x with the number `j`, where those of all strips before it are found.
-fn strip_at(alloc: Global, bars: &[Bar], xs: &[i64], j: usize, found: &mut Found) -> Result<(), No>
+fn strip_at(
+    alloc: Global,
+    bars: &[Bar],
+    xs: &[i64],
+    j: usize,
+    active: &mut Active,
+    found: &mut Found,
+) -> Result<(), No>
     requires near { All (IsBelow POINT_SIZE) xs.now }
+    requires from_left { AreFromLeft bars.now }
+    requires rising { IsSorted int_cmp xs.now }
     requires first { 0 < j }
     requires within { j < length xs.now }
+    requires reached { AreActive bars.now (x_at xs.now (j - 1)) (x_at xs.now (j - 1)) active.old }
     requires so_far { AreSwept bars.now xs.now (j - 1) found.old }
     ensures done { OnOk result (AreSwept bars.now xs.now j found.new) }
+    ensures kept { OnOk result (AreActive bars.now (x_at xs.now j) (x_at xs.now j) active.new) }
     ensures stopped { IfErr result (AreStopped bars.now xs.now) }
 {
-    between(alloc, bars, xs[j - 1], xs[j], found)
+    between(alloc, bars, xs[j - 1], xs[j], active, found)
 }
 
 // The cells of all slabs, from left to right and then upwards, where `xs` are the ends' x from left to right.
 pub fn strips(alloc: Global, bars: &[Bar], xs: &[i64]) -> Result<Found, No>
-    requires { All (IsBelow POINT_SIZE) xs.now }
+    requires near { All (IsBelow POINT_SIZE) xs.now }
+    requires from_left { AreFromLeft bars.now }
+    requires rising { IsSorted int_cmp xs.now }
     ensures done { IfOk result (AreSwept bars.now xs.now (length xs.now - 1)) }
     ensures stopped { IfErr result (AreStopped bars.now xs.now) }
 {
@@ -159,8 +176,12 @@ pub fn strips(alloc: Global, bars: &[Bar], xs: &[i64]) -> Result<Found, No>
         count: 0,
         entries: 0,
     };
+    let mut active = Active {
+        bars: Vec::new(alloc),
+        reached: 0,
+    };
     for j in 1..xs.len() {
-        strip_at(alloc, bars, xs, j, &mut found)?;
+        strip_at(alloc, bars, xs, j, &mut active, &mut found)?;
     }
     Ok(found)
 }
