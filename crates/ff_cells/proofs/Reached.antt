@@ -31,10 +31,10 @@ not_lower a b = by (int_cmp b a) (int_ranks b a)
     by Equal m e = omega (arith, ints, m)
     by Greater m e = omega (arith, ints, m)
 
+-- what ends before a ends before a c after it
 lasts_before : (a c : ℤ) (b : Bar) → a ≤ℤ c → lasts a b ≡ false → lasts c b ≡ false
 lasts_before a c b h e = grind (arith, ints)
 
--- what lasts up to c lasts up to an a before it
 lasting_again : (a c : ℤ) → a ≤ℤ c → (xs : List Bar)
     → filter (lasts c) (filter (lasts a) xs) ≡ filter (lasts c) xs
 lasting_again a c h [] = refl
