@@ -1,4 +1,5 @@
 pub mod Marks
+pub mod Follows
 pub mod Rows
 pub mod Widths
 pub mod PairsOf

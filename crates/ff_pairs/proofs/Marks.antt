@@ -7,7 +7,7 @@ use Rattle.std.proofs.lemmas.Nat.{div-mul-add, mul-add-lt}
 use Rattle.std.proofs.lemmas.Grind.{get_or-set_at}
 use Rattle.std.proofs.lemmas.List.{get_or-set_other, get_or_default}
 use Rattle.ff_cells.specs.declared.cell.Cell.{Cell}
-use Rattle.ff_pairs.specs.Tables.{is_marked, Adds, StandsAt, IsBehind, IsOrdered, IsInCells}
+use Rattle.ff_pairs.specs.Tables.{is_marked, Adds, StandsAt, IsBehind, IsAhead, IsOrdered, IsInCells}
 
 same_index : (w f h a b : ℕ) → h < w → b < w → f * w + h ≡ a * w + b → (f ≡ a) × (h ≡ b)
 same_index w f h a b l m e =
@@ -49,7 +49,7 @@ mark_more w old mid new R S T a b k = record { long = b.long ∙ a.long; adds = 
     | inr u ↦ (b.adds f h p q).1 (inr u)
   ]
 
-below_or : (k n : ℕ) → k < n + 1 → (k < n) ⊎ (k ≡ n)
+pub below_or : (k n : ℕ) → k < n + 1 → (k < n) ⊎ (k ≡ n)
 below_or k n l = grind (arith, l)
 
 -- ---- the faces behind one of a list
@@ -57,7 +57,7 @@ below_or k n l = grind (arith, l)
 pub none_behind : (faces : List ℕ) (i f h : ℕ) → IsBehind faces i (i + 1) f h → ⊥
 none_behind faces i f h (s, (k, l, m, t)) = omega (arith, l, m)
 
-stands_is : (xs : List ℕ) (k x : ℕ) → StandsAt xs k x → x ≡ get_or xs k 0
+pub stands_is : (xs : List ℕ) (k x : ℕ) → StandsAt xs k x → x ≡ get_or xs k 0
 stands_is xs k x (l, e) = sym e ∙ get_or_default xs k x 0 l
 
 is_stands : (xs : List ℕ) (k x : ℕ) → k < length xs → x ≡ get_or xs k 0 → StandsAt xs k x
@@ -73,19 +73,20 @@ more_behind faces i j f h lt within = (there, back) where
   back (inl (s, (k, l, m, t))) = (s, (k, l, omega (arith, m), t))
   back (inr (s, t)) = (is_stands faces i f (omega (arith, lt, within)) s, (j, lt, omega arith, is_stands faces j h within t))
 
--- ---- the pairs of a list
+-- ---- the faces before one of a list
 
-pub none_ordered : (faces : List ℕ) (f h : ℕ) → IsOrdered faces 0 f h → ⊥
-none_ordered faces f h (i, l, b) = omega (arith, l)
+pub none_ahead : (faces : List ℕ) (i f h : ℕ) → IsAhead faces i 0 f h → ⊥
+none_ahead faces i f h (s, (k, l, m, t)) = omega (arith, m)
 
-pub more_ordered : (faces : List ℕ) (n f h : ℕ) → IsOrdered faces (n + 1) f h ↔ (IsOrdered faces n f h ⊎ IsBehind faces n (length faces) f h)
-more_ordered faces n f h = (there, back) where
-  there : IsOrdered faces (n + 1) f h → IsOrdered faces n f h ⊎ IsBehind faces n (length faces) f h
-  there (i, l, b) = elim (below_or i n l) [ inl e ↦ inl (i, e, b) | inr e ↦ inr (subst (λ k. IsBehind faces k (length faces) f h) e b) ]
+pub more_ahead : (faces : List ℕ) (i j f h : ℕ) → j < i → i < length faces
+    → IsAhead faces i (j + 1) f h ↔ (IsAhead faces i j f h ⊎ ((f ≡ get_or faces j 0) × (h ≡ get_or faces i 0)))
+more_ahead faces i j f h lt within = (there, back) where
+  there : IsAhead faces i (j + 1) f h → IsAhead faces i j f h ⊎ ((f ≡ get_or faces j 0) × (h ≡ get_or faces i 0))
+  there (s, (k, l, m, t)) = elim (below_or k j m) [ inl e ↦ inl (s, (k, l, e, t)) | inr e ↦ inr (stands_is faces j f (subst (λ n. StandsAt faces n f) e t), stands_is faces i h s) ]
 
-  back : IsOrdered faces n f h ⊎ IsBehind faces n (length faces) f h → IsOrdered faces (n + 1) f h
-  back (inl (i, l, b)) = (i, omega (arith, l), b)
-  back (inr b) = (n, omega arith, b)
+  back : IsAhead faces i j f h ⊎ ((f ≡ get_or faces j 0) × (h ≡ get_or faces i 0)) → IsAhead faces i (j + 1) f h
+  back (inl (s, (k, l, m, t))) = (s, (k, l, omega (arith, m), t))
+  back (inr (s, t)) = (is_stands faces i h within t, (j, lt, omega arith, is_stands faces j f (omega (arith, lt, within)) s))
 
 -- ---- the pairs of the cells
 

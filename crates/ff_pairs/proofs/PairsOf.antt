@@ -6,7 +6,6 @@ use Rattle.std.proofs.Math.ListN.{take, replicate, get_or-eq_default, length-rep
 use Rattle.std.proofs.Math.Seq.{take-append_seam}
 use Rattle.std.proofs.lemmas.Bool.{ltb-true, ltb-false, false≢true}
 use Rattle.std.proofs.lemmas.List.{get_or_default, get_or-replicate}
-use Rattle.std.proofs.lemmas.List.Kept.{AllPairs-from_increasing}
 use Rattle.std.proofs.lemmas.Option.{slice_get-get_or, slice_get_within, get_or_from_slice_get}
 use Rattle.ff_whole.specs.declared.places.Place.{Place}
 use Rattle.ff_types.specs.Sheets.{Sheet, faces_of, is_face}
@@ -15,43 +14,18 @@ use Rattle.ff_types.proofs.Memberships.{in_filter, filter_in, range_in}
 use Rattle.ff_cells.specs.declared.cell.Cell.{Cell}
 use Rattle.ff_cells.specs.FaceSets.{IsFaceList, IsFaceSet, HaveFaceSets}
 use Rattle.ff_pairs.specs.Together.{AreTogether, ArePairsOf, IsListed}
-use Rattle.ff_pairs.specs.Tables.{Adds, StandsAt, IsInCells, IsListedTo}
+use Rattle.ff_pairs.specs.Tables.{Adds, IsInCells, IsListedTo}
+use Rattle.ff_pairs.proofs.Follows.{ordered}
 
 -- ---- together in a cell, and in the order of its list
 
-rises : (xs : List ℕ) (i j f h : ℕ) → IsStrictlyIncreasing xs → StandsAt xs i f → StandsAt xs j h → f < h → i < j
-rises xs i j f h up (l, a) (m, b) lt = by where
-  at_i : get_or xs i 0 ≡ f
-  at_i = get_or_default xs i 0 f l ∙ a
-
-  at_j : get_or xs j 0 ≡ h
-  at_j = get_or_default xs j 0 h m ∙ b
-
-  same : i ≡ j → f ≡ h
-  same e = sym at_i ∙ ap (λ k. get_or xs k 0) e ∙ at_j
-
-  after : j < i → h < f
-  after k = subst (λ x. x < f) at_j (subst (λ y. get_or xs j 0 < y) at_i (AllPairs-from_increasing xs up j i 0 k l))
-
-  by : i < j
-  by = elim (either i j) [ inl k ↦ k | inr k ↦ absurd (elim k [ inl e ↦ (let s = same e in omega (arith, lt, s)) | inr e ↦ (let s = after e in omega (arith, lt, s)) ]) ]
-    where
-      either : (i j : ℕ) → (i < j) ⊎ ((i ≡ j) ⊎ (j < i))
-      either i j = grind arith
-
 pub in_cells : (cells : List Cell) (f h : ℕ) → All IsFaceList cells → f < h → AreTogether cells f h → IsInCells cells (length cells) f h
-in_cells cells f h lists lt t = (k, t.cell, within, at, (i, t.first.1, ((t.first.1, t.first.2), (j, rises t.cell.faces i j f h up (t.first.1, t.first.2) (t.second.1, t.second.2) lt, t.second.1, (t.second.1, t.second.2))))) where
+in_cells cells f h lists lt t = (k, t.cell, within, at, ordered t.cell.faces f h up lt t.first t.second) where
   k : ℕ
   k = t.there.0
 
   within : k < length cells
   within = t.there.1
-
-  i : ℕ
-  i = t.first.0
-
-  j : ℕ
-  j = t.second.0
 
   at : slice_get cells k ≡ Some t.cell
   at = slice_get-get_or cells k t.cell within ∙ ap Some t.there.2

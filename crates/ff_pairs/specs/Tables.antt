@@ -21,6 +21,14 @@ StandsAt xs k x = (k < length xs) × (slice_index_or xs k x ≡ x)
 abbrev pub IsBehind : List ℕ → ℕ → ℕ → ℕ → ℕ → Type 0
 IsBehind faces i n f h = StandsAt faces i f × ((k : ℕ) × (i < k) × (k < n) × StandsAt faces k h)
 
+-- h stands at the place i of the list, and f before it and the place n
+abbrev pub IsAhead : List ℕ → ℕ → ℕ → ℕ → ℕ → Type 0
+IsAhead faces i n f h = StandsAt faces i h × ((k : ℕ) × (k < i) × (k < n) × StandsAt faces k f)
+
+-- one of both stands at the place i, and the other before or behind it
+abbrev pub IsAside : List ℕ → ℕ → ℕ → ℕ → Type 0
+IsAside faces i f h = IsAhead faces i i f h ⊎ IsBehind faces i (length faces) f h
+
 -- f stands before the place n of the list, and h behind it
 abbrev pub IsOrdered : List ℕ → ℕ → ℕ → ℕ → Type 0
 IsOrdered faces n f h = (i : ℕ) × (i < n) × IsBehind faces i (length faces) f h
@@ -28,6 +36,14 @@ IsOrdered faces n f h = (i : ℕ) × (i < n) × IsBehind faces i (length faces) 
 -- so it is in one of the first n cells
 abbrev pub IsInCells : List Cell → ℕ → ℕ → ℕ → Type 0
 IsInCells cells n f h = (k : ℕ) × (c : Cell) × (k < n) × (slice_get cells k ≡ Some c) × IsOrdered c.faces (length c.faces) f h
+
+-- a pair that is related so is related like this, too
+abbrev pub IsWithin : (ℕ → ℕ → Type 0) → (ℕ → ℕ → Type 0) → Type 0
+IsWithin R S = (f h : ℕ) → R f h → S f h
+
+-- the table has the pairs that are related
+abbrev pub AreAllMarked : ℕ → List Bool → (ℕ → ℕ → Type 0) → Type 0
+AreAllMarked width table Related = (f h : ℕ) → f < width → h < width → Related f h → IsTrue (is_marked width table f h)
 
 -- the pair comes before (f, h)
 abbrev pub IsPrior : ℕ × ℕ → ℕ → ℕ → Type 0

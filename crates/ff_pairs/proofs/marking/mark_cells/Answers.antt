@@ -1,9 +1,16 @@
-use Rattle.std.proofs.Common.{◌+◌, ◌∙◌, ◌≡◌, sym, ap, subst, length, Some, slice_get}
+use Rattle.std.proofs.Common.{◌+◌, ◌∙◌, ◌≡◌, sym, ap, subst, inr, length, Some, slice_get}
+use Rattle.std.specs.List.Sorted.{IsStrictlyIncreasing}
 use Rattle.std.proofs.lemmas.Option.{slice_get-get_or}
 use Rattle.ff_cells.specs.declared.cell.Cell.{Cell}
 use Rattle.ff_pairs.specs.Tables.{Adds, IsOrdered, IsInCells}
 use Rattle.ff_pairs.proofs.Marks.{mark_more, more_in_cells}
 use Rattle.ff_pairs.proofs.marking.mark_cells.Goals as goal
+
+pub mark_cell-requires-clause-rising : goal.mark_cell-requires-clause-rising
+mark_cell-requires-clause-rising c = subst IsStrictlyIncreasing (sym c.as_slice.ensures) (c.requires.lists c.loop-k.k c.index-cells-k.result c.loop-k-test.true).rising
+
+pub mark_cell-requires-clause-marked : goal.mark_cell-requires-clause-marked
+mark_cell-requires-clause-marked c f h p q o = (c.loop-k.invariant.adds f h p q).1 (inr (c.faces_before.ensures.pairs f h o))
 
 pub loop-k-preserved : goal.loop-k-preserved
 loop-k-preserved c =

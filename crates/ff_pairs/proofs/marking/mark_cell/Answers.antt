@@ -1,0 +1,20 @@
+use Rattle.std.proofs.Common.{◌+◌, sym, subst}
+use Rattle.ff_pairs.proofs.Follows.{AreDoneTo, done_there, done_more, done_all}
+use Rattle.ff_pairs.proofs.marking.mark_cell.Goals as goal
+use Rattle.ff_pairs.proofs.marking.mark_cell.Goals.{then-not-stands_at, else-not-stands_at}
+
+pub loop-i-preserved : goal.loop-i-preserved
+loop-i-preserved c =
+    let w = c.args.width in let old = c.args.table.now in let before = c.args.before.now in let faces = c.args.faces.now in let i = c.loop-i.i in
+    let done = c.loop-i.invariant.done in
+    record {
+      within = c.place_from-at.ensures;
+      done = elim c.if-not-stands_at.branch [
+        | then-not-stands_at b ↦ subst (λ t. AreDoneTo w old t before faces (i + 1)) (sym b.table-is) (done_more w old before faces c.loop-i.table b.mark_face.new.table i b.mark_face.ensures done)
+        | else-not-stands_at b ↦ subst (λ t. AreDoneTo w old t before faces (i + 1)) (sym b.table-is)
+            (let s = c.stands_at.ensures.0 b.if-not-stands_at.false in done_there w old before faces c.loop-i.table i (c.place_from-at.result, s.0, s.1) done)
+      ];
+    }
+
+pub returns : goal.returns
+returns c = done_all c.args.width c.args.table.now c.args.before.now c.args.faces.now c.loop-i.table c.loop-i.i c.loop-i-test.false c.requires.before c.requires.rising c.requires.marked c.loop-i.invariant.done
