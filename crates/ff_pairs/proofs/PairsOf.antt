@@ -100,7 +100,7 @@ clear table n e k t = by (nat_lt k n) refl where
     far h = let m = length-replicate n false in omega (arith, h, m)
 
 -- what is read of a table that is written whole
-pub whole : (n : ℕ) (xs ys : List Bool) → n ≡ length xs → take n (xs ++ ys) ≡ xs
+pub whole : {A : Type 0} (n : ℕ) (xs ys : List A) → n ≡ length xs → take n (xs ++ ys) ≡ xs
 whole n xs ys e = ap (λ k. take k (xs ++ ys)) e ∙ take-append_seam xs ys
 
 pub pairs_from : (cells : List Cell) (w : ℕ) (old new : List Bool) (list : List (ℕ × ℕ)) → All IsFaceList cells

@@ -72,7 +72,7 @@ module _ (w : ℕ) (table : List Bool) where
     back a b l m (inr h) = absurd (omega (arith, l, h.0, h.1))
 
   -- and ends before the next
-  pub row_ends : (f : ℕ) (list : List (ℕ × ℕ)) (h : ℕ) → w ≤ h → IsListedTo w table f h list → IsListedTo w table (f + 1) 0 list
+  pub row_ends : (f : ℕ) (list : List (ℕ × ℕ)) (h : ℕ) → ((b : ℕ) → AreMarked w table f b → b < h) → IsListedTo w table f h list → IsListedTo w table (f + 1) 0 list
   row_ends f list h far s = move f h (f + 1) 0 list on back s where
     on : (p : ℕ × ℕ) → IsPrior p f h → IsPrior p (f + 1) 0
     on p (inl k) = inl (omega (arith, k))
@@ -83,7 +83,7 @@ module _ (w : ℕ) (table : List Bool) where
 
     back : (a b : ℕ) → a < b → AreMarked w table a b → IsPrior (a, b) (f + 1) 0 → IsPrior (a, b) f h
     back a b l m (inr k) = absurd (omega (arith, k.1))
-    back a b l m (inl k) = elim (either a k) [ inl e ↦ inl e | inr e ↦ inr (e, omega (arith, m.1, far)) ]
+    back a b l m (inl k) = elim (either a k) [ inl e ↦ inl e | inr e ↦ inr (e, far b (subst (λ x. AreMarked w table x b) e m)) ]
 
   next_prior : (p : ℕ × ℕ) (f h : ℕ) → IsPrior p f h → IsPrior p f (h + 1)
   next_prior p f h (inl k) = inl k

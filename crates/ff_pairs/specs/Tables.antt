@@ -1,5 +1,5 @@
 -- A square table of flags, a row for each face: which pairs have been met in the cells so far.
-use Rattle.std.specs.Prelude.{◌≡◌, ℕ, ◌+◌, ◌*◌, ◌<◌, ◌⊎◌, ◌↔◌, Bool, false, List, length, slice_index_or, slice_get, Some, IsTrue}
+use Rattle.std.specs.Prelude.{◌≡◌, ℕ, ◌+◌, ◌*◌, ◌<◌, ◌≤◌, ◌⊎◌, ◌↔◌, Bool, false, List, length, slice_index_or, slice_get, Some, IsTrue}
 use Rattle.ff_types.specs.Pairs.{AreSorted}
 use Rattle.ff_cells.specs.declared.cell.Cell.{Cell}
 use Rattle.ff_pairs.specs.Together.{IsListed}
@@ -44,6 +44,19 @@ IsWithin R S = (f h : ℕ) → R f h → S f h
 -- the table has the pairs that are related
 abbrev pub AreAllMarked : ℕ → List Bool → (ℕ → ℕ → Type 0) → Type 0
 AreAllMarked width table Related = (f h : ℕ) → f < width → h < width → Related f h → IsTrue (is_marked width table f h)
+
+-- each face's reach is past all faces that are marked with it
+pub record IsReach (width : ℕ) (table : List Bool) (reach : List ℕ) : Type 0 where
+  pub long : length reach ≡ width
+  pub past : (f h : ℕ) → f < width → h < width → IsTrue (is_marked width table f h) → h < slice_index_or reach f 0
+  pub small : (f : ℕ) → slice_index_or reach f 0 ≤ width
+
+-- no reach is smaller than before, and of the first n faces none below `past`, and none otherwise greater
+pub record AreRaised (old new faces : List ℕ) (n past : ℕ) : Type 0 where
+  pub long : length new ≡ length old
+  pub kept : (f : ℕ) → slice_index_or old f 0 ≤ slice_index_or new f 0
+  pub raised : (i : ℕ) → i < n → past ≤ slice_index_or new (slice_index_or faces i 0) 0
+  pub small : (f w : ℕ) → past ≤ w → slice_index_or old f 0 ≤ w → slice_index_or new f 0 ≤ w
 
 -- the pair comes before (f, h)
 abbrev pub IsPrior : ℕ × ℕ → ℕ → ℕ → Type 0

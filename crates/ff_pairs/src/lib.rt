@@ -5,6 +5,7 @@ mod limits;
 mod listing;
 mod marking;
 mod overlaps;
+mod reaching;
 #[cfg(test)]
 mod tests;
 

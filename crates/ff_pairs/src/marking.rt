@@ -4,18 +4,9 @@ ghost use Rattle.std.specs.List.{All};
 ghost use Rattle.std.specs.List.Sorted.{IsStrictlyIncreasing};
 ghost use Rattle.ff_types.specs.declared.limits.TheConstants.{MOST_FACES as most_faces};
 ghost use Rattle.ff_cells.specs.FaceSets.{IsFaceList};
-ghost use Rattle.ff_pairs.specs.Tables.{
-  Adds,
-  StandsAt,
-  IsBehind,
-  IsAhead,
-  IsAside,
-  IsOrdered,
-  IsInCells,
-  IsWithin,
-  AreAllMarked,
-};
+ghost use Rattle.ff_pairs.specs.Tables.{Adds, StandsAt, IsBehind, IsAhead, IsAside, IsOrdered, IsInCells, IsWithin, IsReach, AreAllMarked};
 
+use crate::reaching::raise;
 use ff_cells::Cell;
 
 // Marks the face at the place i with each face behind it.
@@ -79,20 +70,29 @@ fn stands_at(faces: &[u32], at: usize, face: u32) -> bool
 
 // Marks the pairs of the faces, where those of the faces before are marked: each face that isn't one of these with all
 // others.
-fn mark_cell(table: &mut [bool], width: usize, before: &[u32], faces: &[u32])
+fn mark_cell(
+    table: &mut [bool],
+    reach: &mut [u32],
+    width: usize,
+    before: &[u32],
+    faces: &[u32],
+)
     requires few { width ≤ most_faces }
     requires size { length table.old ≡ width * width }
     requires faces { All (λ f. f < width) faces.now }
     requires rising { IsStrictlyIncreasing faces.now }
     requires before { IsStrictlyIncreasing before.now }
     requires marked { AreAllMarked width table.old (IsOrdered before.now (length before.now)) }
-    ensures { Adds width table.old table.new (IsOrdered faces.now (length faces.now)) }
+    requires reach { IsReach width table.old reach.old }
+    ensures adds { Adds width table.old table.new (IsOrdered faces.now (length faces.now)) }
+    ensures reach { IsReach width table.new reach.new }
 {
     let mut at = 0;
     for i in 0..faces.len() {
         at = place_from(before, at, faces[i]);
         if !stands_at(before, at, faces[i]) {
             mark_face(table, width, faces, i);
+            raise(reach, faces, faces[faces.len() - 1] + 1);
         }
     }
 }
@@ -112,16 +112,19 @@ fn faces_before(cells: &[Cell], k: usize) -> &[u32]
 }
 
 /// Marks, for each cell, each of its faces with each face behind it.
-pub fn mark_cells(table: &mut [bool], width: usize, cells: &[Cell])
+pub fn mark_cells(table: &mut [bool], reach: &mut [u32], width: usize, cells: &[Cell])
     requires few { width ≤ most_faces }
     requires size { length table.old ≡ width * width }
     requires lists { All IsFaceList cells.now }
     requires faces { All (λ c. All (λ f. f < width) c.faces) cells.now }
-    ensures { Adds width table.old table.new (IsInCells cells.now (length cells.now)) }
+    requires reach { IsReach width table.old reach.old }
+    ensures adds { Adds width table.old table.new (IsInCells cells.now (length cells.now)) }
+    ensures reach { IsReach width table.new reach.new }
 {
     for k in 0..cells.len() {
         mark_cell(
             table,
+            reach,
             width,
             faces_before(cells, k),
             cells[k].faces.as_slice(),

@@ -51,8 +51,9 @@ fn list_pairs(alloc: Global, cells: &[Cell]) -> Result<Vec<(u32, u32)>, NoMemory
 {
     let width = width(cells);
     let mut table = vec![in alloc; false; width * width]?;
-    mark_cells(table.as_mut_slice(), width, cells);
-    list_rows(alloc, table.as_slice(), width)
+    let mut reach = vec![in alloc; 0; width]?;
+    mark_cells(table.as_mut_slice(), reach.as_mut_slice(), width, cells);
+    list_rows(alloc, table.as_slice(), reach.as_slice(), width)
 }
 
 /// The pairs of faces that stand together in one of the cells: where these are the cells of a folded pattern, the pairs
