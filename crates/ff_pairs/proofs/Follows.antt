@@ -1,8 +1,7 @@
 -- The pairs of a cell that follows another one.
-use Rattle.std.proofs.Common.{◌≡◌, ℕ, ◌+◌, ◌<◌, ◌≤◌, ◌⊎◌, ◌↔◌, Bool, List, length, get_or, refl, sym, ◌∙◌, ap, subst, inl, inr, arith, IsTrue, Some, slice_get}
-use Rattle.std.specs.List.{All, Contains}
+use Rattle.std.proofs.Common.{◌≡◌, ℕ, ◌+◌, ◌<◌, ◌≤◌, ◌⊎◌, Bool, List, length, get_or, refl, sym, ◌∙◌, ap, subst, inl, inr, arith, IsTrue}
+use Rattle.std.specs.List.{Contains}
 use Rattle.std.specs.List.Sorted.{IsStrictlyIncreasing}
-use Rattle.std.proofs.lemmas.List.{get_or_default}
 use Rattle.std.proofs.lemmas.List.Kept.{AllPairs-from_increasing}
 use Rattle.ff_pairs.specs.Tables.{is_marked, Adds, StandsAt, IsAside, IsOrdered, AreAllMarked}
 use Rattle.ff_pairs.proofs.Marks.{below_or, stands_is}

@@ -70,13 +70,7 @@ fn stands_at(faces: &[u32], at: usize, face: u32) -> bool
 
 // Marks the pairs of the faces, where those of the faces before are marked: each face that isn't one of these with all
 // others.
-fn mark_cell(
-    table: &mut [bool],
-    reach: &mut [u32],
-    width: usize,
-    before: &[u32],
-    faces: &[u32],
-)
+fn mark_cell(table: &mut [bool], reach: &mut [u32], width: usize, before: &[u32], faces: &[u32])
     requires few { width ≤ most_faces }
     requires size { length table.old ≡ width * width }
     requires faces { All (λ f. f < width) faces.now }
@@ -92,7 +86,7 @@ fn mark_cell(
         at = place_from(before, at, faces[i]);
         if !stands_at(before, at, faces[i]) {
             mark_face(table, width, faces, i);
-            raise(reach, faces, faces[faces.len() - 1] + 1);
+            raise(reach, faces, i + 1, faces[faces.len() - 1] + 1);
         }
     }
 }

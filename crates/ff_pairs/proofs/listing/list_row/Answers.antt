@@ -26,4 +26,4 @@ pub returns : goal.returns
 returns c =
     let r = c.requires.reach in let f = c.args.f in
     row_ends c.args.width c.args.table.now f c.loop-h.list.items c.loop-h.h
-        (λ b m. let p = r.past f b m.0 m.1 m.2 in omega (arith, p, c.loop-h-test.false)) c.loop-h.invariant.listed
+    (λ b m. let p = r.past f b m.0 m.1 m.2 in omega (arith, p, c.loop-h-test.false)) c.loop-h.invariant.listed

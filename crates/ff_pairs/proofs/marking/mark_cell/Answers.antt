@@ -1,4 +1,4 @@
-use Rattle.std.proofs.Common.{◌+◌, ◌-◌, ◌<◌, ◌≤◌, ◌≡◌, length, get_or, sym, subst, arith}
+use Rattle.std.proofs.Common.{◌+◌, ◌-◌, ◌<◌, ◌≤◌, length, get_or, sym, subst, arith}
 use Rattle.std.specs.List.{All}
 use Rattle.ff_pairs.specs.Tables.{IsReach}
 use Rattle.ff_pairs.proofs.Follows.{AreDoneTo, done_there, done_more, done_all}
