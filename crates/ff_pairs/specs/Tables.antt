@@ -25,7 +25,7 @@ IsBehind faces i n f h = StandsAt faces i f × ((k : ℕ) × (i < k) × (k < n) 
 abbrev pub IsAhead : List ℕ → ℕ → ℕ → ℕ → ℕ → Type 0
 IsAhead faces i n f h = StandsAt faces i h × ((k : ℕ) × (k < i) × (k < n) × StandsAt faces k f)
 
--- one of both stands at the place i, and the other before or behind it
+-- f stands before h, and one of the two at the place i of the list
 abbrev pub IsAside : List ℕ → ℕ → ℕ → ℕ → Type 0
 IsAside faces i f h = IsAhead faces i i f h ⊎ IsBehind faces i (length faces) f h
 
@@ -37,7 +37,7 @@ IsOrdered faces n f h = (i : ℕ) × (i < n) × IsBehind faces i (length faces) 
 abbrev pub IsInCells : List Cell → ℕ → ℕ → ℕ → Type 0
 IsInCells cells n f h = (k : ℕ) × (c : Cell) × (k < n) × (slice_get cells k ≡ Some c) × IsOrdered c.faces (length c.faces) f h
 
--- a pair that is related so is related like this, too
+-- S relates each pair that R does
 abbrev pub IsWithin : (ℕ → ℕ → Type 0) → (ℕ → ℕ → Type 0) → Type 0
 IsWithin R S = (f h : ℕ) → R f h → S f h
 
@@ -51,7 +51,7 @@ pub record IsReach (width : ℕ) (table : List Bool) (reach : List ℕ) : Type 0
   pub past : (f h : ℕ) → f < width → h < width → IsTrue (is_marked width table f h) → h < slice_index_or reach f 0
   pub small : (f : ℕ) → slice_index_or reach f 0 ≤ width
 
--- no reach is smaller than before, and of the first n faces none below `past`, and none otherwise greater
+-- no reach is smaller than before, none of the first n faces' is below `past`, and none goes above both
 pub record AreRaised (old new faces : List ℕ) (n past : ℕ) : Type 0 where
   pub long : length new ≡ length old
   pub kept : (f : ℕ) → slice_index_or old f 0 ≤ slice_index_or new f 0

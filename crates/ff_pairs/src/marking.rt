@@ -49,7 +49,7 @@ fn mark_face(table: &mut [bool], width: usize, faces: &[u32], i: usize)
     mark_row(table, width, faces, i);
 }
 
-// The first place from `at` on whose face is not less than the one given.
+// The first place from `at` on whose face is not less than the one given, where it may stand. Only time rests on it.
 fn place_from(faces: &[u32], at: usize, face: u32) -> usize
     requires { at ≤ length faces.now }
     ensures { result ≤ length faces.now }
