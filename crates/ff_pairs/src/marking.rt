@@ -87,6 +87,8 @@ fn mark_cell(table: &mut [bool], reach: &mut [u32], width: usize, before: &[u32]
         if !stands_at(before, at, faces[i]) {
             mark_face(table, width, faces, i);
             raise(reach, faces, i + 1, faces[faces.len() - 1] + 1);
+        } else {
+            at += 1;
         }
     }
 }

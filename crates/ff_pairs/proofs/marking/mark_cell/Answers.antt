@@ -17,7 +17,10 @@ loop-i-preserved c =
     let below : All (λ f. f < last + 1) faces = below_last faces c.requires.rising some (last + 1) (omega arith) in
     let past : last + 1 ≤ w = (let l = c.requires.faces (length faces - 1) 0 (omega (arith, some)) in omega (arith, l)) in
     record {
-      within = c.place_from-at.ensures;
+      within = elim c.if-not-stands_at.branch [
+        | then-not-stands_at b ↦ subst (λ n. n ≤ length before) (sym b.at-is) c.place_from-at.ensures
+        | else-not-stands_at b ↦ subst (λ n. n ≤ length before) (sym b.at-is) (let s = c.stands_at.ensures.0 b.if-not-stands_at.false in omega (arith, s.0))
+      ];
       done = elim c.if-not-stands_at.branch [
         | then-not-stands_at b ↦ subst (λ t. AreDoneTo w old t before faces (i + 1)) (sym b.table-is) (done_more w old before faces c.loop-i.table b.mark_face.new.table i b.mark_face.ensures done)
         | else-not-stands_at b ↦ subst (λ t. AreDoneTo w old t before faces (i + 1)) (sym b.table-is)
