@@ -13,7 +13,7 @@ use crate::turns::next_of;
 use ff_drawn::Dart;
 use ff_tables::NoMemory;
 use ff_types::EdgeEnds;
-use ff_whole::{Pt, next_place};
+use ff_whole::{AREA_SIZE, Pt, next_place};
 use std::alloc::Global;
 
 /// For each dart the one along which a walk goes on.
@@ -70,7 +70,7 @@ fn sweep(p: Pt, q: Pt) -> i64
     requires p_near { IsNear p }
     requires q_near { IsNear q }
     ensures value { result ≡ cross p q }
-    ensures size { IsBelow (2 ^ 42) result }
+    ensures size { IsBelow AREA_SIZE result }
 {
     p.x * q.y - p.y * q.x
 }

@@ -6,6 +6,7 @@ use Rattle.std.proofs.lemmas.Int.{ints}
 use Rattle.std.proofs.lemmas.Bool.{false≢true, eqb-true, eqb-false, ltb-true}
 use Rattle.ff_whole.specs.declared.points.Pt.{Pt}
 use Rattle.ff_whole.specs.Points.{mix, IsNear}
+use Rattle.ff_whole.specs.declared.sizes.TheConstants.{POINT_SIZE}
 use Rattle.ff_whole.specs.Convex.{point_at}
 use Rattle.ff_whole.proofs.Ring.{var, ◌⊕◌, ◌⊗◌, solve}
 use Rattle.ff_whole.proofs.Signs.{nonneg-mul, zero_product, nonneg-mul_nonpos, linear}
@@ -131,7 +132,7 @@ meet points e k t = let r = some_of (parts (first_point points e) (last_point po
 -- ---- the other clauses
 
 abbrev pub is_near : Pt → Bool
-is_near p = nat_lt (unsigned_abs p.x) 1048576 && nat_lt (unsigned_abs p.y) 1048576
+is_near p = nat_lt (unsigned_abs p.x) POINT_SIZE && nat_lt (unsigned_abs p.y) POINT_SIZE
 
 near : (p : Pt) → IsTrue (is_near p) → IsNear p
 near p e = let b = both _ _ e in record { x_below = record { below = ltb-true _ _ b.0 }; y_below = record { below = ltb-true _ _ b.1 } }

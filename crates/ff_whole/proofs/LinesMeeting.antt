@@ -6,7 +6,7 @@ use Rattle.ff_whole.proofs.Bounds.{below_factor}
 use Rattle.ff_whole.proofs.Ring.{var, num, ◌⊖◌, ◌⊗◌, opp, solve, solve_from}
 use Rattle.ff_whole.proofs.Signs.{linear, zero_from_mul}
 use Rattle.ff_whole.proofs.Formulas.{PlaceE, LineE, place_e, line_e, place_env, line_env, height_e, slant_e}
-use Rattle.ff_whole.specs.declared.sizes.TheConstants.{MEET_SIZE, MEET_WEIGHT, CORNER_SIZE, CORNER_WEIGHT}
+use Rattle.ff_whole.specs.declared.sizes.TheConstants.{MEET_SIZE, MEET_WEIGHT, CORNER_SIZE, CORNER_X_SIZE, CORNER_WEIGHT}
 use Rattle.ff_whole.specs.Places.{height, slant}
 use Rattle.ff_whole.specs.Meeting.{IsReduced, IsMeet, IsCorner, rise}
 use Rattle.ff_whole.specs.declared.lines.Line.{Line}
@@ -74,14 +74,14 @@ height-opposite k x y w h =
 -- ---- the place of a line at the x of another place
 
 -- a place on the line at that x, in lowest terms and with these bounds, is what `corner` promises
-pub corner_is : (l : Line) (at : Place) (x y w : ℤ) (p : Place) → IsBelow CORNER_SIZE x → IsBelow CORNER_SIZE y
+pub corner_is : (l : Line) (at : Place) (x y w : ℤ) (p : Place) → IsBelow CORNER_X_SIZE x → IsBelow CORNER_SIZE y
     → IsBelow CORNER_WEIGHT w
     → height l (place x y w) ≡ pos 0 → x *ℤ at.w ≡ at.x *ℤ w → IsReduced x y w p → IsCorner l at p
 corner_is l at x y w p bx by bw on same r = record {
   on_line = reduced_height l x y w p r on;
   same_x =
       solve_from (at.x ∷ at.w ∷ p.x ∷ p.w ∷ []) (record { by = num (pos 1); zero = var 2 ⊗ var 1 ⊖ var 0 ⊗ var 3 } ∷ []) (var 2 ⊗ var 1) (var 0 ⊗ var 3) refl (through_zero, tt);
-  x_below = below_factor _ r.by p.x r.by_positive (subst (IsBelow CORNER_SIZE) r.x_is bx);
+  x_below = below_factor _ r.by p.x r.by_positive (subst (IsBelow CORNER_X_SIZE) r.x_is bx);
   y_below = below_factor _ r.by p.y r.by_positive (subst (IsBelow CORNER_SIZE) r.y_is by);
   w_below = below_factor _ r.by p.w r.by_positive (subst (IsBelow CORNER_WEIGHT) r.w_is bw);
   positive = r.positive;

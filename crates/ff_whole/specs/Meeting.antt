@@ -8,7 +8,7 @@ use Rattle.ff_whole.specs.Sizes.{IsBelow, IsMeetPlace}
 use Rattle.ff_whole.specs.Places.{height, slant}
 use Rattle.ff_whole.specs.declared.lines.Line.{Line}
 use Rattle.ff_whole.specs.declared.places.Place.{Place}
-use Rattle.ff_whole.specs.declared.sizes.TheConstants.{CORNER_SIZE, CORNER_WEIGHT}
+use Rattle.ff_whole.specs.declared.sizes.TheConstants.{CORNER_SIZE, CORNER_X_SIZE, CORNER_WEIGHT}
 
 -- the three numbers have no common divisor but 1
 abbrev pub HasNoDivisor : Place → Type 0
@@ -44,7 +44,7 @@ height_cmp k l at = int_cmp (int_signum (k.b *ℤ l.b) *ℤ (rise k at *ℤ l.b)
 pub record IsCorner (l : Line) (at s : Place) : Type 0 where
   pub on_line : height l s ≡ pos 0
   pub same_x : s.x *ℤ at.w ≡ at.x *ℤ s.w
-  pub x_below : IsBelow CORNER_SIZE s.x
+  pub x_below : IsBelow CORNER_X_SIZE s.x
   pub y_below : IsBelow CORNER_SIZE s.y
   pub w_below : IsBelow CORNER_WEIGHT s.w
   pub positive : pos 0 <ℤ s.w

@@ -20,6 +20,6 @@ pub use meeting::meet;
 pub use places::{Place, cmp_x};
 pub use points::{Pt, orient};
 pub use sizes::{
-    CORNER_SIZE, CORNER_WEIGHT, MEET_SIZE, MEET_WEIGHT, OFFSET_SIZE, PLACE_SIZE, PLACE_WEIGHT,
+    AREA_SIZE, CORNER_SIZE, CORNER_WEIGHT, CORNER_X_SIZE, MEET_SIZE, MEET_WEIGHT, OFFSET_SIZE, PLACE_SIZE, PLACE_WEIGHT,
     POINT_SIZE, SLOPE_SIZE,
 };
