@@ -13,6 +13,7 @@ pub mod TraceSteps
 pub mod FoundDarts
 pub mod RingReads
 pub mod RingTests
+pub mod UnbentRings
 pub mod OuterDarts
 pub mod Rims
 pub mod EdgePoints

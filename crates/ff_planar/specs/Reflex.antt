@@ -25,6 +25,10 @@ HasReflex points ring v = (i : ℕ) × (i < length ring) × (corner ring i ≡ v
 abbrev pub IsUnbent : List Pt → List ℕ → ℕ → Type 0
 IsUnbent points ring n = (i : ℕ) → i < n → IsReflex points ring i → ⊥
 
+-- the vertices at the first n places are different
+abbrev pub AreDifferent : List ℕ → ℕ → Type 0
+AreDifferent ring n = (i j : ℕ) → i < n → j < n → corner ring i ≡ corner ring j → i ≡ j
+
 -- in none of the rings before n
 abbrev pub AreUnbent : List Pt → List (List ℕ) → ℕ → Type 0
 AreUnbent points rings n = (f : ℕ) → f < n → IsUnbent points (ring_at rings f) (length (ring_at rings f))

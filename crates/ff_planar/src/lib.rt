@@ -1,6 +1,7 @@
 //! The faces of a crease pattern, or why it has none.
 #![tactic(auto)]
 
+mod bends;
 mod finding;
 mod frames;
 mod joining;

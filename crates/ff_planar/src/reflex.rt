@@ -1,5 +1,5 @@
 //! Vertices at which a ring isn't convex, or which it has inside.
-ghost use Rattle.std.specs.Prelude.{◌≡◌, ◌<◌, ◌↔◌, ℕ, IsTrue, length, false};
+ghost use Rattle.std.specs.Prelude.{◌≡◌, ◌<◌, ◌↔◌, ℕ, IsTrue, length, false, IfOk};
 ghost use Rattle.std.specs.List.{All};
 ghost use Rattle.ff_whole.specs.Points.{IsNear};
 ghost use Rattle.ff_types.specs.Rings.{corner};
@@ -9,12 +9,14 @@ ghost use Rattle.ff_types.specs.FaceRefusals.{ReflexAt, EnclosedAt};
 ghost use Rattle.ff_drawn.specs.Graphs.{IsGraph};
 ghost use Rattle.ff_drawn.specs.Firsts.{IsFirst};
 ghost use Rattle.ff_planar.specs.Frames.{NoneInside};
-ghost use Rattle.ff_planar.specs.Reflex.{IsBad, IsReflex, HasReflex, SomeReflex, IsInside, SomeInside, AreThere, IsUnbent, AreUnbent};
+ghost use Rattle.ff_planar.specs.Reflex.{IsBad, IsReflex, HasReflex, SomeReflex, IsInside, SomeInside, AreThere};
 
+use crate::bends::any_bent;
 use ff_drawn::{is_left, is_right};
-use ff_tables::Items;
+use ff_tables::{Items, NoMemory};
 use ff_types::EdgeEnds;
 use ff_whole::{Pt, next_place};
+use std::alloc::Global;
 
 // Whether the vertex at place `i` stands at place `j` too, or is strictly right of the step from there.
 fn is_bad(points: &[Pt], ring: &[u32], i: usize, j: usize) -> bool
@@ -106,50 +108,27 @@ fn some_inside(points: &[Pt], rings: &[Items<u32>], v: u32) -> bool
     false
 }
 
-// Whether a ring isn't convex.
-fn is_bent(points: &[Pt], ring: &[u32]) -> bool
-    requires near { All IsNear points.now }
-    requires there { (k : ℕ) → k < length ring.now → corner ring.now k < length points.now }
-    ensures { result ≡ false → IsUnbent points.now ring.now (length ring.now) }
-{
-    for i in 0..ring.len() {
-        if is_reflex(points, ring, i) {
-            return true;
-        }
-    }
-    false
-}
-
-// Whether some ring isn't convex.
-fn any_bent(points: &[Pt], rings: &[Items<u32>]) -> bool
-    requires near { All IsNear points.now }
-    requires there { AreThere points.now rings.now }
-    ensures { result ≡ false → AreUnbent points.now rings.now (length rings.now) }
-{
-    for f in 0..rings.len() {
-        if is_bent(points, rings[f].as_slice()) {
-            return true;
-        }
-    }
-    false
-}
-
 /// The first vertex at which a ring stands twice or isn't convex.
-pub fn first_reflex(points: &[Pt], edges: &[EdgeEnds], rings: &[Items<u32>]) -> Option<usize>
+pub fn first_reflex(
+    alloc: Global,
+    points: &[Pt],
+    edges: &[EdgeEnds],
+    rings: &[Items<u32>],
+) -> Result<Option<usize>, NoMemory>
     requires graph { IsGraph points.now edges.now }
     requires drawing { IsDrawing points.now edges.now }
     requires rings { AreRingWalks points.now edges.now rings.now }
-    ensures { IsFirst (ReflexAt points.now edges.now) result }
+    ensures { IfOk result (IsFirst (ReflexAt points.now edges.now)) }
 {
-    if !any_bent(points, rings) {
-        return None;
+    if !any_bent(alloc, points, rings)? {
+        return Ok(None);
     }
     for v in 0..points.len() {
         if some_reflex(points, rings, v as u32) {
-            return Some(v);
+            return Ok(Some(v));
         }
     }
-    None
+    Ok(None)
 }
 
 /// The first vertex that is strictly inside a ring, where it is known whether any is.

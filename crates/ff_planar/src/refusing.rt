@@ -49,7 +49,7 @@ pub fn refuse(
     if let Some(v) = first_pinch(points, edges, darts, rings, sides) {
         return Err(No::Refused(Refusal::Pinch { v }));
     }
-    if let Some(v) = first_reflex(points, edges, rings) {
+    if let Some(v) = first_reflex(alloc, points, edges, rings)? {
         return Err(No::Refused(Refusal::Reflex { v: v as u32 }));
     }
     if let Some(v) = first_enclosed(points, edges, rings, any) {

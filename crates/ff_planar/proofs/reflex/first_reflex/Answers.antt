@@ -12,12 +12,12 @@ any_bent-requires-clause-near c = all_near c.args.points.now c.args.edges.now c.
 pub any_bent-requires-clause-there : goal.any_bent-requires-clause-there
 any_bent-requires-clause-there c = let r = c.requires in rings_there c.args.points.now c.args.edges.now r.drawing c.args.rings.now r.rings
 
-pub returns-then-not-any_bent : goal.returns-then-not-any_bent
-returns-then-not-any_bent c = λ v h.
+pub returns-then-not-branch : goal.returns-then-not-branch
+returns-then-not-branch c = λ v h.
     let r = c.requires in
     let s = from_reflex c.args.points.now c.args.edges.now r.drawing c.args.rings.now r.rings v h in
     let x = s.2 in
-    c.any_bent.ensures c.if-not-any_bent.true s.0 s.1 x.0 x.1 x.3
+    c.in_ok-any_bent.ensures c.if-not-branch.true s.0 s.1 x.0 x.1 x.3
 
 pub some_reflex-requires-clause-near : goal.some_reflex-requires-clause-near
 some_reflex-requires-clause-near c = all_near c.args.points.now c.args.edges.now c.requires.graph

@@ -1,5 +1,5 @@
 use Rattle.ff_planar.specs.Reflex.{AreUnbent}
-use Rattle.ff_planar.proofs.reflex.any_bent.Given as goal
+use Rattle.ff_planar.proofs.bends.any_bent.Given as goal
 
 abbrev pub invariant-loop-f : goal.invariant-loop-f
 invariant-loop-f l = AreUnbent l.points l.rings l.f

@@ -1,0 +1,12 @@
+use Rattle.std.proofs.Common.{◌≡◌, ℕ, ◌<◌, length, true}
+use Rattle.ff_types.specs.Rings.{corner}
+use Rattle.ff_planar.specs.Reflex.{AreDifferent}
+use Rattle.ff_planar.specs.Joining.{reached_at}
+use Rattle.ff_planar.proofs.bends.meets.Given as goal
+
+abbrev pub invariant-loop-i : goal.invariant-loop-i
+invariant-loop-i l = record {
+  as_many : length l.marked ≡ length l.fn.marked;
+  met : (k : ℕ) → k < l.i → reached_at l.marked (corner l.ring k) ≡ true;
+  differ : AreDifferent l.ring l.i;
+}
