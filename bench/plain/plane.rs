@@ -1,4 +1,4 @@
-//! The loops of `ff_timing_plane` in plain Rust, written for this benchmark: the same points, lines and places, with the
+//! The loops of `ff_timing` in plain Rust, written for this benchmark: the same points, lines and places, with the
 //! formulas that a plain program has for them. The word `orient`, `crossing` or `side_of` says which.
 
 #[derive(Clone, Copy, PartialEq)]

@@ -11,5 +11,3 @@ pub use standard::{StdSink, StdSource};
 pub use steady::{SteadySink, SteadySource};
 pub use streams::{Sink, SinkFailed, Source, SourceFailed};
 
-#[cfg(test)]
-mod tests;

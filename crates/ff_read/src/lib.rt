@@ -7,8 +7,6 @@ mod keys;
 mod laws;
 mod objects;
 mod patterns;
-#[cfg(test)]
-mod tests;
 
 pub use keys::fold_keys;
 pub use laws::reading_is_one;

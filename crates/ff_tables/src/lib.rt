@@ -27,5 +27,3 @@ pub use systems::System;
 pub use terms::{Constraint, Kind, Term, Terms, terms_of};
 pub use texts::Text;
 
-#[cfg(test)]
-mod tests;

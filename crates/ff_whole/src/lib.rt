@@ -9,8 +9,6 @@ mod meeting;
 mod places;
 mod points;
 mod sizes;
-#[cfg(test)]
-mod tests;
 
 pub use convex::{is_convex, next_place};
 pub use divisors::{gcd, reduced};

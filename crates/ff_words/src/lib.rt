@@ -3,8 +3,6 @@
 
 mod jobs;
 mod numbers;
-#[cfg(test)]
-mod tests;
 mod words;
 
 pub use jobs::{Job, WordsNo};
