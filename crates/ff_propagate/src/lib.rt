@@ -17,6 +17,3 @@ pub use facts::{ClashAt, Closed, Fact, Facts, Reason};
 pub use laws::{facts_are_in_the_closure, further_facts_keep_the_rule};
 pub use parts::Part;
 pub use uses::Uses;
-
-#[cfg(test)]
-mod tests;
