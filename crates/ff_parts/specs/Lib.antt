@@ -1,4 +1,5 @@
 pub mod Labels
+pub mod Marks
 pub mod Gathers
 pub mod Lists
 pub mod Factors
