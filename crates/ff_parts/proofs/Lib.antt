@@ -6,3 +6,4 @@ pub mod Classes
 pub mod Factoring
 pub mod Zipped
 pub mod Touching
+pub mod Apart

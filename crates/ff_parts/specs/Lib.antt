@@ -3,3 +3,4 @@ pub mod Marks
 pub mod Gathers
 pub mod Lists
 pub mod Factors
+pub mod PartLaws
