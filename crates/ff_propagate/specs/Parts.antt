@@ -52,3 +52,16 @@ pub record AreParts (vars : ℕ) (cons : List Constraint) (value : ℕ → Optio
       × Contains part v
   pub sorted : (k l : ℕ) (p q : List ℕ) → k < l → slice_get parts k ≡ Some p → slice_get parts l ≡ Some q
       → slice_index p 0 < slice_index q 0
+
+-- the constraint has a variable of the part
+pub record Touches (part : List ℕ) (con : Constraint) : Type 0 where
+  pub place : ℕ
+  pub inside : place < length con.terms
+  pub among : Contains part (term_at con.terms place).var
+
+-- the numbers of the constraints that have a variable of the part: all of them, each once, in increasing order
+pub record AreTouching (cons : List Constraint) (part list : List ℕ) : Type 0 where
+  pub each : (i : ℕ) → i < length list → (con : Constraint) × (slice_get cons (slice_index list i) ≡ Some con)
+      × Touches part con
+  pub all : (c : ℕ) (con : Constraint) → slice_get cons c ≡ Some con → Touches part con → Contains list c
+  pub rising : (i j : ℕ) → i < j → j < length list → slice_index list i < slice_index list j

@@ -4,10 +4,11 @@ ghost use Rattle.std.specs.Prelude.{◌≡◌, IfOk};
 use ff_tables::{Items, NoMemory};
 use std::alloc::Global;
 
-/// The variables of a part, in increasing order.
+/// The variables of a part, and the numbers of the constraints that have one of them, both in increasing order.
 #[derive(Drop)]
 pub struct Part {
     pub vars: Items<u32>,
+    pub touching: Items<u32>,
 }
 
 impl Part {
@@ -17,6 +18,7 @@ impl Part {
     {
         Ok(Part {
             vars: self.vars.copy(alloc)?,
+            touching: self.touching.copy(alloc)?,
         })
     }
 }
