@@ -20,7 +20,7 @@ use Rattle.ff_types.specs.declared.faces.Folded.{Folded}
 use Rattle.ff_types.specs.Sheets.{Sheet, sheet_of}
 use Rattle.ff_types.specs.Inside.{is_inside, over}
 use Rattle.ff_types.specs.FoldedPatterns.{IsFoldedPattern}
-use Rattle.ff_types.proofs.Memberships.{no_member, first_member, later_member}
+use Rattle.ff_types.proofs.Memberships.{first_member, later_member}
 use Rattle.ff_cells.specs.declared.limits.TheConstants.{MOST_CELLS, MOST_ENTRIES}
 use Rattle.ff_cells.specs.declared.bars.Bar.{Bar}
 use Rattle.ff_cells.specs.declared.cell.Cell.{Cell}
@@ -31,9 +31,10 @@ use Rattle.ff_cells.specs.Sheet.{IsOver, IsInside}
 use Rattle.ff_cells.specs.Steps.{AreBars}
 use Rattle.ff_cells.specs.Strip.{at_x, IsCells}
 use Rattle.ff_cells.specs.Stopped.{AreStopped}
+use Rattle.ff_cells.specs.Merged.{firsts}
 use Rattle.ff_cells.specs.Tally.{capped, entries_of, IsTally}
 use Rattle.ff_cells.specs.Xs.{AreXs}
-use Rattle.ff_cells.specs.SlabCells.{IsInCell, StandInCells, AreOneEach, entries, IsSlabCell, AreCells, AreNoCells}
+use Rattle.ff_cells.specs.SlabCells.{IsBefore, IsNotAfter, IsInCell, StandInCells, AreOneEach, entries, IsSlabCell, AreCells, HasFewCells, AreNoCells}
 use Rattle.ff_cells.proofs.Cuts.{run-opposite, run-trans_first, run-trans_last}
 use Rattle.ff_cells.proofs.Strips.{run_to, run_from}
 use Rattle.ff_cells.proofs.Faces.{IsStep}
@@ -42,22 +43,12 @@ use Rattle.ff_cells.proofs.FaceLists.{over_inside, face_below, some_member}
 use Rattle.ff_cells.proofs.Slices.{one_place}
 use Rattle.ff_cells.proofs.Rows.{mid, IsGood, IsMet, IsRow, row_empty}
 use Rattle.ff_cells.proofs.AllXs as all
+use Rattle.ff_cells.proofs.Merging.{AreMerged, are_merged, member_map, all_map}
+use Rattle.ff_cells.proofs.OneCount.{together, before_moves}
 use Rattle.ff_cells.proofs.Sweeps as sweeps
 use Rattle.ff_cells.proofs.Moved as moves
 
 -- ---- lists
-
-member_map : (cs : List Cell) (c : Cell) → Contains cs c → Contains (map mid cs) (mid c)
-member_map [] c m = absurd (no_member c m)
-member_map (x ∷ cs) c (zero, lt, e) = first_member (mid x) (map mid cs) (mid c) (ap mid e)
-member_map (x ∷ cs) c (suc k, lt, e) = later_member (mid x) (map mid cs) (mid c)
-    (member_map cs c (k, omega (arith, lt), e))
-
-all_map : (P : Place → Type 0) (cs : List Cell) → ((c : Cell) → Contains cs c → P (mid c))
-    → All P (map mid cs)
-all_map P [] h k d lt = absurd (omega (arith, lt))
-all_map P (x ∷ cs) h zero d lt = h x (first_member x cs x refl)
-all_map P (x ∷ cs) h (suc k) d lt = all_map P cs (λ c m. h c (later_member x cs c m)) k d (omega (arith, lt))
 
 all_cells : (P : Cell → Type 0) (cs : List Cell) → ((c : Cell) → Contains cs c → P c) → All P cs
 all_cells P cs h k d lt = h (get_or cs k d) (k, lt, get_or_default cs k (get_or cs k d) d lt)
@@ -79,6 +70,15 @@ few_if_capped most n h = grind (arith, nat_tests, h)
 
 past_if_capped : (most n : ℕ) → most < capped most n → most < n
 past_if_capped most n h = grind (arith, nat_tests, h)
+
+few_cells : (cs : List Cell) (found : Found) → IsTally cs found → found.count ≤ MOST_CELLS
+    → length cs ≤ MOST_CELLS
+few_cells cs found t few = few_if_capped MOST_CELLS (length cs) (subst (λ n. n ≤ MOST_CELLS) t.count few)
+
+few_entries : (cs : List Cell) (found : Found) → IsTally cs found → found.entries ≤ MOST_ENTRIES
+    → entries_of cs ≤ MOST_ENTRIES
+few_entries cs found t few = few_if_capped MOST_ENTRIES (entries_of cs)
+    (subst (λ n. n ≤ MOST_ENTRIES) t.entries few)
 
 -- ---- the whole sweep
 
@@ -186,11 +186,48 @@ module _ {pattern : Pattern} {faces : FacesRow} {folded : Folded} (h : IsFoldedP
       all = λ p i. (let m = met p i in (mid m.cell, member_map cs m.cell m.there, m.not_before, m.not_after));
     }
 
-    pub are_cells : AreCells g cs
+    merged : AreMerged g cs (firsts cs)
+    merged = are_merged g cs
+
+    good : (c : Cell) → Contains (firsts cs) c → IsGood g c
+    good c m = whole.each c (merged.sub c m)
+
+    -- the first cell of a set is the one over a place, or comes before it
+    not_after : (s : Place) → IsInCell g s → (c d : Cell) → Contains (firsts cs) d → IsInCell g (mid c)
+        → (IsBefore g s (mid c) → ⊥) → (IsBefore g (mid c) s → ⊥) → (d ≡ c) ⊎ IsBefore g (mid d) (mid c)
+        → IsNotAfter g (mid d) s
+    not_after s i c d m j before after (inl e) = subst (λ (z : Cell). IsNotAfter g (mid z) s) (sym e) (inr (after, before))
+    not_after s i c d m j before after (inr b) = inl (before_moves (drawn h bars are) (mid d) (mid c) s (good d m).in_cell b
+        (together (drawn h bars are) (mid c) s j i after before))
+
+    pub are_cells : AreCells g (firsts cs)
     are_cells = record {
-      each = all_cells (IsSlabCell g) cs (λ c m. (whole.each c m).slab_cell);
-      one_each = one_each;
+      each = all_cells (IsSlabCell g) (firsts cs) (λ c m. (good c m).slab_cell);
+      stand = record {
+        each = all_map (IsInCell g) (firsts cs) (λ c m. (good c m).in_cell);
+        in_order = merged.in_order whole.in_order;
+      };
+      apart = merged.apart;
+      first = λ s i. (let m = met s i in let f = merged.first whole.in_order m.cell m.there in
+          (f.0, f.1, f.2 ∙ m.faces, not_after s i m.cell f.0 f.1 (whole.each m.cell m.there).in_cell m.not_before m.not_after f.3));
     }
+
+    pub counted : (found : Found) → IsTally cs found → found.count ≤ MOST_CELLS → found.entries ≤ MOST_ENTRIES
+        → HasFewCells g
+    counted found t few short = record {
+      places = map mid cs;
+      one_each = one_each;
+      few = subst (λ n. n ≤ MOST_CELLS) (sym (length-map cs mid)) (few_cells cs found t few);
+      few_entries = subst (λ n. n ≤ MOST_ENTRIES)
+          (sym (entries_are g cs (λ c m. (whole.each c m).slab_cell.faces))) (few_entries cs found t short);
+    }
+
+    pub few_kept : (found : Found) → IsTally cs found → found.count ≤ MOST_CELLS → length (firsts cs) ≤ MOST_CELLS
+    few_kept found t few = let a = few_cells cs found t few in let b = merged.short in omega (arith, a, b)
+
+    pub few_kept_entries : (found : Found) → IsTally cs found → found.entries ≤ MOST_ENTRIES
+        → entries_of (firsts cs) ≤ MOST_ENTRIES
+    few_kept_entries found t few = let a = few_entries cs found t few in let b = merged.few in omega (arith, a, b)
 
     cell_of : (c : Cell) → IsGood g c → IsCell g c
     cell_of c q = record {
@@ -201,25 +238,27 @@ module _ {pattern : Pattern} {faces : FacesRow} {folded : Folded} (h : IsFoldedP
       small = q.slab_cell.small;
     }
 
-    pub face_sets : HaveFaceSets g cs
+    pub face_sets : HaveFaceSets g (firsts cs)
     face_sets = record {
-      each = λ c m. cell_of c (whole.each c m);
+      each = λ c m. cell_of c (good c m);
       all = λ s place off some. (
           let q = moves.moved d s place in
           let m = met q.0 (moves.in_cell d s q.0 q.1 some) in
-          (m.cell, m.there, m.faces ∙ moves.same_over d s q.0 q.1 place off));
+          let f = merged.sets m.cell m.there in
+          (f.0, f.1, f.2 ∙ m.faces ∙ moves.same_over d s q.0 q.1 place off));
       together = λ s place some. (
           let q = moves.moved d s place in
-          let m = met q.0 (moves.in_cell d s q.0 q.1 some) in (
-            m.cell,
-            m.there,
-            λ f c. subst (λ fs. Contains fs f) (sym m.faces)
+          let m = met q.0 (moves.in_cell d s q.0 q.1 some) in
+          let e = merged.sets m.cell m.there in (
+            e.0,
+            e.1,
+            λ f c. subst (λ fs. Contains fs f) (sym (e.2 ∙ m.faces))
                 (moves.keeps_over d s q.0 q.1 f c),
           ));
     }
 
-    pub face_lists : All IsFaceList cs
-    face_lists = all_cells IsFaceList cs (λ c m. (let q = whole.each c m in
+    pub face_lists : All IsFaceList (firsts cs)
+    face_lists = all_cells IsFaceList (firsts cs) (λ c m. (let q = good c m in
         record { rising = q.rising; few = few c q }))
       where
         few : (c : Cell) → IsGood g c → All (λ f. f < MOST_FACES) c.faces
@@ -246,15 +285,3 @@ module _ {pattern : Pattern} {faces : FacesRow} {folded : Folded} (h : IsFoldedP
             (past_if_capped MOST_ENTRIES (entries_of cs) (subst (λ n. MOST_ENTRIES < n) t.entries many)),
       ),
     ))
-
-pub few_cells : (cs : List Cell) (found : Found) → IsTally cs found → found.count ≤ MOST_CELLS
-    → length cs ≤ MOST_CELLS
-few_cells cs found t few = few_if_capped MOST_CELLS (length cs) (subst (λ n. n ≤ MOST_CELLS) t.count few)
-
-pub few_entries : (cs : List Cell) (found : Found) → IsTally cs found → found.entries ≤ MOST_ENTRIES
-    → entries_of cs ≤ MOST_ENTRIES
-few_entries cs found t few = few_if_capped MOST_ENTRIES (entries_of cs)
-    (subst (λ n. n ≤ MOST_ENTRIES) t.entries few)
-
-pub all_member : (P : Cell → Type 0) (cs : List Cell) → All P cs → (c : Cell) → Contains cs c → P c
-all_member P cs h c (k, lt, e) = subst P e (h k c lt)

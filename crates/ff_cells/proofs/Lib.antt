@@ -23,11 +23,12 @@ pub mod Drawn
 pub mod Slices
 pub mod SliceCells
 pub mod Rows
+pub mod Merging
+pub mod GapCells
 pub mod AllXs
 pub mod Sweeps
 pub mod Moved
+pub mod OneCount
 pub mod Complete
 pub mod BarsThere
-pub mod OneCount
 pub mod Counting
-pub mod WorkedStrip

@@ -155,7 +155,7 @@ module _ {g : Sheet} {bars : List Bar} (d : IsDrawn g bars) where
     pub not_below : IsBelow g s r → ⊥
     pub not_above : IsBelow g r s → ⊥
 
-  together : (s r : Place) → IsInCell g s → IsInCell g r → (IsBefore g s r → ⊥) → (IsBefore g r s → ⊥)
+  pub together : (s r : Place) → IsInCell g s → IsInCell g r → (IsBefore g s r → ⊥) → (IsBefore g r s → ⊥)
       → AreTogether s r
   together s r i j n m = record {
     beside = record { first = i; second = j; not_left = λ l. n (inl l); not_right = λ l. m (inl l) };
@@ -209,6 +209,50 @@ module _ {g : Sheet} {bars : List Bar} (d : IsDrawn g bars) where
       let k = bar_above s r u b.0 b.1 o x.1 in
       let m = bar_below t r w b.0 b.1 q y.1 in
       omega (arith, linear)
+
+  -- what comes before a place comes before each that is in one slab cell with it
+  pub before_moves : (d c s : Place) → IsInCell g d → IsBefore g d c → AreTogether c s → IsBefore g d s
+  before_moves d c s i (inl (b, place, on, x, y)) t = inl (
+    b,
+    place,
+    on,
+    x,
+    by_sign (run b s)
+        (λ n. (let o = run-opposite b s in absurd (t.beside.not_right (b, place, on, omega (arith, linear), y))))
+        (λ z. absurd (t.beside.second.between b place on z))
+        (λ k. k),
+  )
+  before_moves d c s i (inr (n, (e, l, up, low))) t = inr (
+    (λ h. n (still_left h)),
+    (
+      e,
+      l,
+      up,
+      passes_below b.0 s t.beside.second.place (reach b.0 s (over_beside b.0 b.1 c s t.beside o)) g e b.2
+          (bar_below c s t b.0 b.1 o y.1),
+    ),
+  )
+    where
+      b : (b : Bar) × Contains bars b × AreEnds g e b
+      b = bar_past e l c low.0 t.beside.first low.1 low.3 low.2
+
+      y : Reaches b.0 c × (pos 0 <ℤ height b.0.line c)
+      y = from_below g e b.0 b.2 c t.beside.first.place low
+
+      o : IsOver b.0 c
+      o = strictly b.0 b.1 c t.beside.first y.0
+
+      still_left : IsLeftOf g s d → IsLeftOf g c d
+      still_left (b, place, on, x, y) = (
+        b,
+        place,
+        on,
+        by_sign (run c b)
+            (λ n. absurd (t.beside.not_right (b, place, on, x, (let o = run-opposite c b in omega (arith, linear)))))
+            (λ z. absurd (t.beside.first.between b place on (let o = run-opposite c b in omega (arith, linear))))
+            (λ k. k),
+        y,
+      )
 
   -- ---- places in one slab cell are over the same faces
 

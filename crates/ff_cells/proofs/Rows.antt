@@ -37,7 +37,7 @@ all_of_members P (x ∷ xs) h zero d lt = h x (first_member x xs x refl)
 all_of_members P (x ∷ xs) h (suc k) d lt = all_of_members P xs (λ y m. h y (later_member x xs y m)) k d
     (omega (arith, lt))
 
-member_of_all : (P : Place → Type 0) (xs : List Place) → All P xs → (x : Place) → Contains xs x → P x
+pub member_of_all : (P : Place → Type 0) (xs : List Place) → All P xs → (x : Place) → Contains xs x → P x
 member_of_all P xs h x (k, lt, e) = subst P e (h k x lt)
 
 pub in_order_append : (g : Sheet) (xs ys : List Place) → AreInOrder g xs → AreInOrder g ys

@@ -2,12 +2,26 @@
 use Rattle.std.specs.Prelude.{ℕ, zero, suc, ◌≡◌, ◌⊎◌, ◌↔◌, ◌+◌, ◌<◌, List, [], ◌∷◌, ◌++◌, length, slice_index_or, pos, ◌<ℤ◌}
 use Rattle.std.specs.List.{Contains}
 use Rattle.std.specs.List.Sorted.{IsStrictlyIncreasing}
+use Rattle.ff_whole.specs.declared.lines.Line.{Line}
 use Rattle.ff_whole.specs.declared.places.Place.{Place}
 use Rattle.ff_cells.specs.declared.bars.Bar.{Bar}
 use Rattle.ff_cells.specs.declared.cell.Cell.{Cell}
 use Rattle.ff_cells.specs.Gap.{gap}
 use Rattle.ff_cells.specs.Sheet.{IsCorners}
 use Rattle.ff_cells.specs.Next.{IsOpenAfter}
+
+-- the gap between the lines is open at the place, which is one of the two
+abbrev pub OpensAt : Place → Place → Line → Line → Place → Type 0
+OpensAt left right k l top = ((top ≡ left) × (pos 0 <ℤ gap k l left)) ⊎ ((top ≡ right) × (pos 0 <ℤ gap k l right))
+
+-- the cell has these faces, and corners of the gap between the lines
+pub record IsGapCell (faces : List ℕ) (left right : Place) (k l : Line) (c : Cell) : Type 0 where
+  pub faces_are : c.faces ≡ faces
+  pub low_left : Place
+  pub low_right : Place
+  pub top : Place
+  pub at_is : c.at ≡ low_left ∷ low_right ∷ top ∷ []
+  pub corners : IsCorners left right k l low_left low_right top
 
 -- the cell of the gap below the bar n
 pub record IsCellAt (v : List Bar) (left right : Place) (n : ℕ) (c : Cell) : Type 0 where

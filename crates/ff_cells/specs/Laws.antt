@@ -8,10 +8,8 @@ use Rattle.ff_types.specs.declared.refusals.No.TheVariants.{Refused}
 use Rattle.ff_types.specs.declared.refusals.Refusal.{Refusal}
 use Rattle.ff_types.specs.FoldedPatterns.{IsFoldedPattern}
 use Rattle.ff_types.specs.Sheets.{Sheet, sheet_of}
-use Rattle.ff_cells.specs.declared.cell.Cell.{Cell}
 use Rattle.ff_cells.specs.declared.limits.TheConstants.{MOST_CELLS, MOST_ENTRIES}
-use Rattle.ff_cells.specs.Tally.{entries_of}
-use Rattle.ff_cells.specs.SlabCells.{StandInCells, AreOneEach, entries, AreCells, AreNoCells}
+use Rattle.ff_cells.specs.SlabCells.{StandInCells, AreOneEach, entries, AreNoCells}
 
 -- No list of places in different slab cells is longer, or has more entries, than one with a place in each.
 abbrev pub AreCounted : Sheet → Type 0
@@ -22,10 +20,10 @@ abbrev pub CellsAreCounted : Type 0
 CellsAreCounted = (pattern : Pattern) (faces : Faces) (folded : Folded) → IsFoldedPattern pattern faces folded
     → AreCounted (sheet_of pattern faces folded)
 
--- What has its cells within the limits isn't refused.
+-- What has its slab cells and entries within the limits isn't refused.
 abbrev pub AreNotRefused : Sheet → Type 0
-AreNotRefused g = (cells : List Cell) → AreCells g cells → length cells ≤ MOST_CELLS
-    → entries_of cells ≤ MOST_ENTRIES → (r : Refusal) → AreNoCells g (Refused r) → ⊥
+AreNotRefused g = (places : List Place) → AreOneEach g places → length places ≤ MOST_CELLS
+    → entries g places ≤ MOST_ENTRIES → (r : Refusal) → AreNoCells g (Refused r) → ⊥
 
 abbrev pub GivenOrRefused : Type 0
 GivenOrRefused = (pattern : Pattern) (faces : Faces) (folded : Folded) → IsFoldedPattern pattern faces folded

@@ -11,9 +11,9 @@ pub mod Swept
 pub mod Strip
 pub mod Reached
 pub mod Steps
+pub mod Merged
 pub mod Tally
 pub mod Stopped
 pub mod SlabCells
 pub mod Xs
 pub mod Laws
-pub mod Worked

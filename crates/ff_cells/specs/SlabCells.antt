@@ -1,6 +1,6 @@
 -- Slab cells: the parts of the folded sheet between neighbouring borders, which run from below to above, and
 -- neighbouring images of edges. This project's own; slabs are those of plane sweeps.
-use Rattle.std.specs.Prelude.{ℕ, ◌≡◌, ◌≢◌, ◌⊎◌, ◌<◌, ◌≤◌, pos, ◌*ℤ◌, ◌<ℤ◌, false, List, [], ◌∷◌, map, length, IsTrue}
+use Rattle.std.specs.Prelude.{ℕ, ◌≡◌, ◌≢◌, ◌⊎◌, ◌<◌, ◌≤◌, pos, ◌*ℤ◌, ◌<ℤ◌, false, List, [], ◌∷◌, map, length, slice_index_or, IsTrue}
 use Rattle.std.specs.List.{All, Contains, sum_by}
 use Rattle.ff_whole.specs.declared.places.Place.{Place}
 use Rattle.ff_whole.specs.Places.{place_of, IsPlace}
@@ -108,10 +108,28 @@ pub record IsSlabCell (g : Sheet) (c : Cell) : Type 0 where
   -- of a size whose side may be asked
   pub small : All IsSmallPlace c.at
 
--- One cell for each slab cell, in order.
+-- s comes before t, or both are in one slab cell
+abbrev pub IsNotAfter : Sheet → Place → Place → Type 0
+IsNotAfter g s t = IsBefore g s t ⊎ ((IsBefore g s t → ⊥) × (IsBefore g t s → ⊥))
+
+-- The first slab cell of each different set of faces, each once, in the order of the slab cells.
 pub record AreCells (g : Sheet) (cells : List Cell) : Type 0 where
   pub each : All (IsSlabCell g) cells
-  pub one_each : AreOneEach g (map (λ c. middle c.at) cells)
+  -- in different slab cells, in the order of these
+  pub stand : StandInCells g (map (λ c. middle c.at) cells)
+  -- with different sets
+  pub apart : (m n : ℕ) (d : Cell) → m < n → n < length cells
+      → (slice_index_or cells m d).faces ≢ (slice_index_or cells n d).faces
+  -- the set over each slab cell, at that slab cell or at one before it
+  pub first : (s : Place) → IsInCell g s → (c : Cell) × Contains cells c × (c.faces ≡ over g s)
+      × IsNotAfter g (middle c.at) s
+
+-- slab cells and entries within their limits
+pub record HasFewCells (g : Sheet) : Type 0 where
+  pub places : List Place
+  pub one_each : AreOneEach g places
+  pub few : length places ≤ MOST_CELLS
+  pub few_entries : entries g places ≤ MOST_ENTRIES
 
 -- Why there are no cells: there are too many slab cells, or not too many but too many entries, or memory was
 -- refused.

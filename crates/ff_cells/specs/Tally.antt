@@ -5,6 +5,7 @@ use Rattle.ff_cells.specs.declared.limits.TheConstants.{MOST_CELLS, MOST_ENTRIES
 use Rattle.ff_cells.specs.declared.cell.Cell.{Cell}
 use Rattle.ff_cells.specs.declared.found.Corners.{Corners}
 use Rattle.ff_cells.specs.declared.found.Found.{Found}
+use Rattle.ff_cells.specs.Merged.{firsts, AreNumbered}
 
 -- the number, or one past the limit where it is greater
 abbrev pub capped : ℕ → ℕ → ℕ
@@ -14,11 +15,12 @@ capped most n = if nat_lt most n then most + 1 else n
 abbrev pub entries_of : List Cell → ℕ
 entries_of cells = sum_by (λ c. length c.faces) cells
 
--- these are all cells found
+-- these are all cells found, and the first of each set is kept
 pub record IsTally (all : List Cell) (f : Found) : Type 0 where
   pub count : f.count ≡ capped MOST_CELLS (length all)
   pub entries : f.entries ≡ capped MOST_ENTRIES (entries_of all)
-  pub kept : f.entries ≤ MOST_ENTRIES → f.cells.items ≡ all
+  pub kept : f.entries ≤ MOST_ENTRIES → f.cells.items ≡ firsts all
+  pub numbered : AreNumbered f.cells.items f.places
 
 -- these cells are found besides
 abbrev pub Adds : Found → List Cell → Found → Type 0

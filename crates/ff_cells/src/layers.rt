@@ -7,7 +7,7 @@ ghost use Rattle.ff_types.specs.Sheets.{sheet_of};
 ghost use Rattle.ff_cells.specs.declared.limits.TheConstants.{MOST_CELLS as most_cells};
 ghost use Rattle.ff_cells.specs.declared.limits.TheConstants.{MOST_ENTRIES as most_entries};
 ghost use Rattle.ff_cells.specs.FaceSets.{HaveFaceSets, IsFaceList};
-ghost use Rattle.ff_cells.specs.SlabCells.{AreCells, AreNoCells};
+ghost use Rattle.ff_cells.specs.SlabCells.{AreCells, HasFewCells, AreNoCells};
 ghost use Rattle.ff_cells.specs.Reached.{AreFromLeft};
 ghost use Rattle.ff_cells.specs.Steps.{AreBars};
 ghost use Rattle.ff_cells.specs.Tally.{entries_of};
@@ -63,9 +63,10 @@ fn swept(alloc: Global, faces: &Faces, folded: &Folded) -> Result<Found, No>
     strips(alloc, bars.as_slice(), xs.as_slice())
 }
 
-/// The slab cells of a folded pattern from left to right, then upwards: between neighbouring x of folded vertices and
-/// of crossings of folded edges, the parts between neighbouring images of edges that lie in at least one face. Each has
-/// the faces over it and three of its corners. Refused exactly where there are more than `MOST_CELLS` of them, or else
+/// The slab cells of a folded pattern lie from left to right, then upwards: between neighbouring x of folded vertices and
+/// of crossings of folded edges, the parts between neighbouring images of edges that lie in at least one face. The result
+/// has for each different set of faces the first of them that has these faces over it, in the order of the slab cells,
+/// with the faces and three of its corners. Refused exactly where there are more than `MOST_CELLS` slab cells, or else
 /// more than `MOST_ENTRIES` faces over all of them together.
 pub fn cells(alloc: Global, faces: &Faces, folded: &Folded) -> Result<Items<Cell>, No>
     requires { (pattern : PatternRow) × IsFoldedPattern pattern faces.now folded.now }
@@ -76,6 +77,9 @@ pub fn cells(alloc: Global, faces: &Faces, folded: &Folded) -> Result<Items<Cell
         → IsFoldedPattern pattern faces.now folded.now
         → HaveFaceSets (sheet_of pattern faces.now folded.now) list) }
     ensures face_lists { IfOk result (All IsFaceList) }
+    ensures counted { IfOk result (λ _. (pattern : PatternRow)
+        → IsFoldedPattern pattern faces.now folded.now
+        → HasFewCells (sheet_of pattern faces.now folded.now)) }
     ensures few { IfOk result (λ list. length list ≤ most_cells) }
     ensures few_entries { IfOk result (λ list. entries_of list ≤ most_entries) }
     ensures refused { IfErr result (λ no. (pattern : PatternRow)

@@ -12,11 +12,10 @@ mod laws;
 mod layers;
 mod limits;
 mod reaching;
+mod recent;
 mod slab;
 mod steps;
 mod sweep;
-#[cfg(test)]
-mod tests;
 
 pub use cell::Cell;
 pub use face_lists::are_face_lists;

@@ -1,5 +1,5 @@
 //! The cells of one slab.
-ghost use Rattle.ff_cells.specs.Emits.{IsEmitted};
+ghost use Rattle.ff_cells.specs.Emits.{IsEmitted, OpensAt};
 ghost use Rattle.ff_cells.specs.Tally.{Adds};
 ghost use Rattle.ff_cells.specs.declared.bars.Bar.{Bar as BarRow};
 ghost use Rattle.ff_cells.specs.declared.cell.Cell.{Cell as CellRow};
@@ -8,14 +8,14 @@ ghost use Rattle.std.specs.List.{Contains};
 ghost use Rattle.std.specs.List.Sorted.{IsStrictlyIncreasing};
 ghost use Rattle.ff_cells.specs.Pass.{IsPassed};
 ghost use Rattle.ff_cells.specs.Gap.{gap};
-ghost use Rattle.ff_cells.specs.Sheet.{IsUnder, IsCorners};
+ghost use Rattle.ff_cells.specs.Sheet.{IsUnder};
 
 use crate::adding::add;
 use crate::bars::Bar;
 use crate::border::Border;
-use crate::found::{Corners, Found};
+use crate::found::Found;
 use ff_tables::NoMemory;
-use ff_whole::{cmp_height, corner};
+use ff_whole::cmp_height;
 use std::alloc::Global;
 use std::cmp::Ordering;
 
@@ -41,30 +41,23 @@ pub fn pass(faces: &mut Vec<u32>, bar: &Bar) -> Result<(), NoMemory>
     Ok(())
 }
 
-// The corners of the gap between two neighbours, or None where they coincide in the slab.
-pub fn gap_corners(low: &Bar, high: &Bar, left: &Border, right: &Border) -> Option<Corners>
+// The border at which the gap between two neighbours is open, or None where they coincide in the slab.
+pub fn opening(low: &Bar, high: &Bar, left: &Border, right: &Border) -> Option<Border>
     requires { IsUnder left.now.place right.now.place low.now.line high.now.line }
     ensures { MatchOption result ((gap low.now.line high.now.line left.now.place ≡ pos 0)
         × (gap low.now.line high.now.line right.now.place ≡ pos 0))
-        (λ at. IsCorners left.now.place right.now.place low.now.line high.now.line at.first at.second at.third
-        × ((pos 0 <ℤ gap low.now.line high.now.line left.now.place)
-        ⊎ (pos 0 <ℤ gap low.now.line high.now.line right.now.place))) }
+        (λ top. OpensAt left.now.place right.now.place low.now.line high.now.line top.place) }
 {
-    let top = match cmp_height(low.line, high.line, left.place) {
+    match cmp_height(low.line, high.line, left.place) {
         Ordering::Equal => match cmp_height(low.line, high.line, right.place) {
-            Ordering::Equal => return None,
-            _ => right,
+            Ordering::Equal => None,
+            _ => Some(*right),
         },
-        _ => left,
-    };
-    Some(Corners {
-        first: corner(low.line, left.place),
-        second: corner(low.line, right.place),
-        third: corner(high.line, top.place),
-    })
+        _ => Some(*left),
+    }
 }
 
-// Appends the cells of the slab from below to above, where the bars stand in order at both borders.
+// Finds the cells of the slab from below to above, where the bars stand in order at both borders.
 pub fn slab(
     alloc: Global,
     v: &[Bar],
@@ -81,8 +74,9 @@ pub fn slab(
     let mut faces = Vec::new(alloc);
     for i in 0..v.len() {
         if i > 0 && !faces.is_empty() {
-            if let Some(at) = gap_corners(&v[i - 1], &v[i], left, right) {
-                add(found, &faces, at)?;
+            let (low, high) = (&v[i - 1], &v[i]);
+            if let Some(top) = opening(low, high, left, right) {
+                add(found, &faces, low, high, left, right, &top)?;
             }
         }
         pass(&mut faces, &v[i])?;

@@ -22,6 +22,7 @@ ghost use Rattle.ff_cells.specs.Next.{StartsUp, IsNext};
 
 use crate::MOST_CELLS;
 use crate::active::Active;
+use crate::adding::nothing;
 use crate::bars::{Bar, crossing, sort_bars};
 use crate::border::Border;
 use crate::found::Found;
@@ -171,11 +172,7 @@ pub fn strips(alloc: Global, bars: &[Bar], xs: &[i64]) -> Result<Found, No>
     ensures done { IfOk result (AreSwept bars.now xs.now (length xs.now - 1)) }
     ensures stopped { IfErr result (AreStopped bars.now xs.now) }
 {
-    let mut found = Found {
-        cells: Vec::new(alloc),
-        count: 0,
-        entries: 0,
-    };
+    let mut found = nothing(alloc)?;
     let mut active = Active {
         bars: Vec::new(alloc),
         reached: 0,

@@ -6,8 +6,6 @@ mod listing;
 mod marking;
 mod overlaps;
 mod reaching;
-#[cfg(test)]
-mod tests;
 
 pub use limits::MOST_PAIRS;
 pub use overlaps::pairs;

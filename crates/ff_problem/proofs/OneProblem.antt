@@ -23,7 +23,7 @@ use Rattle.ff_types.specs.FoldRefusals.{RefusesFolding}
 use Rattle.ff_types.specs.Sheets.{Sheet, sheet_of}
 use Rattle.ff_types.specs.Cases.{IsCaseOf}
 use Rattle.ff_whole.specs.declared.places.Place.{Place}
-use Rattle.ff_cells.specs.SlabCells.{AreNoCells, AreOneEach, StandInCells, entries}
+use Rattle.ff_cells.specs.SlabCells.{AreNoCells, AreOneEach, StandInCells, entries, HasFewCells}
 use Rattle.ff_cells.proofs.Counting.{counted_once}
 use Rattle.ff_planar.specs.Given.{AreGiven}
 use Rattle.ff_planar.proofs.FacesOnce.{faces_once}
@@ -34,7 +34,7 @@ use Rattle.ff_reflect.specs.Laws.{IsSameFolding}
 use Rattle.ff_reflect.proofs.OneFolding.{one_folding}
 use Rattle.ff_reflect.proofs.OneRefusal.{one_refusal as one_unfolded_refusal}
 use Rattle.ff_reflect.proofs.Refused.{refused_folds_not}
-use Rattle.ff_problem.specs.Limits.{RefusesCase, HasFewCells, IsWithinLimits}
+use Rattle.ff_problem.specs.Limits.{RefusesCase, IsWithinLimits}
 use Rattle.ff_problem.specs.Problems.{IsProblem, RefusesAsDrawn}
 use Rattle.ff_problem.specs.Laws.{ProblemIsOne, ProblemsAreNotRefused, ProblemRefusalIsOne}
 

@@ -36,7 +36,8 @@ use Rattle.ff_trans.specs.Triples.{AreNoTriples, AreTriples}
 use Rattle.ff_tacos.specs.Tacos.{AreTooMany, AreTacos}
 use Rattle.ff_listed.specs.Splitting.{cite_of}
 use Rattle.ff_types.specs.declared.limits.TheConstants.{MOST_CONSTRAINTS}
-use Rattle.ff_problem.specs.Limits.{HasFewCells, HasManyPairs, HasManyConstraints, WhyNoCase}
+use Rattle.ff_cells.specs.SlabCells.{HasFewCells}
+use Rattle.ff_problem.specs.Limits.{HasManyPairs, HasManyConstraints, WhyNoCase}
 use Rattle.ff_problem.specs.Layers.{AreLayers}
 use Rattle.ff_problem.proofs.Assembly.{all_hold, all_sorted}
 use Rattle.ff_problem.proofs.Counts.{no_more_pairs}

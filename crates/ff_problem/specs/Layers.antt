@@ -14,7 +14,8 @@ use Rattle.ff_trans.specs.Triples.{AreTriples}
 use Rattle.ff_tacos.specs.Tacos.{AreTacos}
 use Rattle.ff_pairs.specs.declared.limits.TheConstants.{MOST_PAIRS}
 use Rattle.ff_types.specs.declared.limits.TheConstants.{MOST_CONSTRAINTS}
-use Rattle.ff_problem.specs.Limits.{HasFewCells, IsWithinLimits}
+use Rattle.ff_cells.specs.SlabCells.{HasFewCells}
+use Rattle.ff_problem.specs.Limits.{IsWithinLimits}
 
 -- cells with the face sets of the sheet, within the limits
 pub record AreFewCells (g : Sheet) (cells : List Cell) : Type 0 where

@@ -1,6 +1,5 @@
 -- Why a folded sheet has too many cells, entries, pairs or constraints for a case. The limits are this project's own.
-use Rattle.std.specs.Prelude.{◌≡◌, ◌≢◌, ℕ, ◌<◌, ◌≤◌, ◌⊎◌, List, length, slice_get, Some}
-use Rattle.ff_whole.specs.declared.places.Place.{Place}
+use Rattle.std.specs.Prelude.{◌≡◌, ◌≢◌, ℕ, ◌<◌, ◌⊎◌, List, length, slice_get, Some}
 use Rattle.ff_types.specs.declared.cites.Cite.{Cite}
 use Rattle.ff_types.specs.declared.refusals.Refusal.{Refusal}
 use Rattle.ff_types.specs.declared.refusals.Refusal.TheVariants.{TooMany}
@@ -12,17 +11,9 @@ use Rattle.ff_types.specs.Sheets.{Sheet}
 use Rattle.ff_types.specs.Inside.{Overlap}
 use Rattle.ff_types.specs.Cites.{Holds}
 use Rattle.ff_types.specs.Cases.{key}
-use Rattle.ff_cells.specs.declared.limits.TheConstants.{MOST_CELLS, MOST_ENTRIES}
-use Rattle.ff_cells.specs.SlabCells.{AreOneEach, AreNoCells, entries}
+use Rattle.ff_cells.specs.SlabCells.{HasFewCells, AreNoCells}
 use Rattle.ff_pairs.specs.declared.limits.TheConstants.{MOST_PAIRS}
 use Rattle.ff_types.specs.declared.limits.TheConstants.{MOST_CONSTRAINTS}
-
--- slab cells and entries within their limits
-pub record HasFewCells (g : Sheet) : Type 0 where
-  pub places : List Place
-  pub one_each : AreOneEach g places
-  pub few : length places ≤ MOST_CELLS
-  pub few_entries : entries g places ≤ MOST_ENTRIES
 
 -- different overlapping pairs, in order
 pub record OverlapInOrder (g : Sheet) (pairs : List (ℕ × ℕ)) : Type 0 where

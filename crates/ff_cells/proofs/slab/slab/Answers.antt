@@ -1,17 +1,25 @@
-use Rattle.std.proofs.Common.{ℕ, ◌≡◌, ◌+◌, ◌-◌, ◌<◌, List, [], ◌∷◌, length, get_or, arith, refl, sym, ap, subst, ◌∙◌, ◌↔◌, inl}
+use Rattle.std.proofs.Common.{ℕ, ◌≡◌, ◌+◌, ◌-◌, ◌<◌, List, [], length, get_or, arith, sym, ap, subst, ◌∙◌, ◌↔◌, ◌⊎◌, inl, inr, pos, ◌<ℤ◌}
 use Rattle.std.proofs.lemmas.List.{get_or_default}
 use Rattle.std.specs.List.{Contains}
 use Rattle.ff_cells.specs.Sheet.{IsUnder}
 use Rattle.ff_cells.specs.declared.bars.Bar.{Bar}
-use Rattle.ff_cells.specs.declared.cell.Cell.{Cell}
 use Rattle.ff_cells.specs.Next.{IsOpenAfter}
-use Rattle.ff_cells.specs.Emits.{IsCellAt, HasNone}
+use Rattle.std.specs.List.Sorted.{IsStrictlyIncreasing}
+use Rattle.ff_whole.specs.declared.places.Place.{Place}
+use Rattle.ff_whole.specs.declared.lines.Line.{Line}
+use Rattle.ff_cells.specs.Gap.{gap}
+use Rattle.ff_cells.specs.Emits.{OpensAt, IsCellAt, HasNone}
 use Rattle.ff_cells.proofs.Emitting.{none_open, passed, Emitted, emit_start, emit_none, emit_one, none_of_empty, none_of_same, empty_of_test, some_of_test}
 use Rattle.ff_cells.proofs.slab.slab.Goals as goal
 use Rattle.ff_cells.proofs.slab.slab.Goals.{then-i-gt0+then-not-is_empty+in-Some+in_ok-add, then-i-gt0+then-not-is_empty+in_default, else-i-gt0, else-i-gt0-via-then-i-gt0+else-not-is_empty, else-i-gt0-via-else-i-gt0}
 
-pub gap_corners-requires : goal.gap_corners-requires
-gap_corners-requires c =
+opens_of : (left right top : Place) (k l : Line) → OpensAt left right k l top
+    → (pos 0 <ℤ gap k l left) ⊎ (pos 0 <ℤ gap k l right)
+opens_of left right top k l (inl (e, o)) = inl o
+opens_of left right top k l (inr (e, o)) = inr o
+
+pub opening-requires : goal.opening-requires
+opening-requires c =
     let v = c.args.v.now in let i = c.loop-i.i in
     let left = c.args.left.now.place in let right = c.args.right.now.place in
     let low = c.index-v-i.result in let high = c.index-v-i-then-not-is_empty.result in
@@ -61,33 +69,29 @@ loop-i-preserved c =
           c.in_ok-pass.ensures.members;
       emitted = elim c.if-i-gt0.branch [
         | then-i-gt0+then-not-is_empty+in-Some+in_ok-add w ↦
-            (let cell : Cell = record {
-              faces = xs;
-              at = w.in-Some.at.first ∷ w.in-Some.at.second ∷
-                  w.in-Some.at.third ∷ [];
-            } in
+            (let made = w.in_ok-add.ensures in
+            let gap = made.1 in
             let some : 0 < length xs = some_of_test _ (length xs) w.is_empty.result c.loop-i.faces.ok.0
             w.is_empty.ensures w.if-not-is_empty.true in
-            let at : IsCellAt v left right i cell = record {
+            let at : IsCellAt v left right i made.0 = record {
               low = w.index-v-i.result;
               high = w.index-v-i-then-not-is_empty.result;
               within = lt;
               first = w.if-i-gt0.true;
               low_is = λ k e. before v i k w.index-v-i.result lt e w.index-v-i.is;
               high_is = sym w.index-v-i-then-not-is_empty.is;
-              opens = w.in-Some.ensures.1;
-              low_left = w.in-Some.at.first;
-              low_right = w.in-Some.at.second;
-              top = w.in-Some.at.third;
-              at_is = refl;
-              corners = w.in-Some.ensures.0;
-              rising = inv.rising;
-              some = some;
-              faces = inv.opened;
+              opens = opens_of _ _ _ _ _ w.in-Some.ensures;
+              low_left = gap.low_left;
+              low_right = gap.low_right;
+              top = gap.top;
+              at_is = gap.at_is;
+              corners = gap.corners;
+              rising = subst IsStrictlyIncreasing (sym gap.faces_are) inv.rising;
+              some = subst (λ fs. 0 < length fs) (sym gap.faces_are) some;
+              faces = subst (λ fs. (f : ℕ) → Contains fs f ↔ IsOpenAfter v i f) (sym gap.faces_are) inv.opened;
             } in
             subst (λ (z : _). Emitted v left right (i + 1) start z) (sym w.found-is)
-            (emit_one v left right i start c.loop-i.found w.add.new.found cell inv.emitted
-            (w.in_ok-add.ensures cell refl) at))
+            (emit_one v left right i start c.loop-i.found w.add.new.found made.0 inv.emitted made.2 at))
         | then-i-gt0+then-not-is_empty+in_default w ↦
             (let n = none_of_same v left right i w.index-v-i.result w.index-v-i-then-not-is_empty.result lt
             (λ k e. before v i k w.index-v-i.result lt e w.index-v-i.is)
