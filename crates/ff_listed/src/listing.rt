@@ -1,5 +1,5 @@
 //! The constraints of a case with their cites.
-ghost use Rattle.std.specs.Prelude.{◌≡◌, ◌++◌, ◌∷◌, [], ◌<◌, ◌≤◌, length, map, OnOk, IfErr, vec_len, vec_capacity};
+ghost use Rattle.std.specs.Prelude.{◌≡◌, ◌++◌, ◌∷◌, [], ◌<◌, ◌≤◌, length, map, OnOk, OnErr, IfErr, vec_len, vec_capacity};
 ghost use Rattle.ff_types.specs.declared.refusals.No.TheVariants.{Refused};
 ghost use Rattle.ff_types.specs.declared.refusals.Refusal.TheVariants.{TooMany};
 ghost use Rattle.ff_types.specs.declared.refusals.What.TheVariants.{Constraints};
@@ -70,9 +70,10 @@ impl Listing {
         self.cites.as_slice().len()
     }
 
-    /// Appends a constraint, where there is room.
+    /// Appends a constraint, where there is room. After an error the list is as before.
     pub fn append(&mut self, listed: Listed) -> Result<(), No>
         ensures appended { OnOk result (self.new ≡ self.old ++ listed ∷ []) }
+        ensures kept { OnErr result (self.new ≡ self.old) }
         ensures few { OnOk result (length self.new ≤ most_constraints) }
         ensures refused { IfErr result (IsFull (length self.old)) }
     {

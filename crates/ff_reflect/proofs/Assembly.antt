@@ -30,7 +30,7 @@ use Rattle.ff_reflect.specs.Folding.{IsRefused, WhyNotFolded, WhyNotPlaced}
 use Rattle.ff_reflect.proofs.Cases.{by_below}
 use Rattle.ff_reflect.proofs.Orders.{all_of}
 use Rattle.ff_reflect.proofs.Foldings.{known, broken_folds_not}
-use Rattle.ff_reflect.proofs.Refused.{get_member, torn_folds_not, far_folds_not}
+use Rattle.ff_reflect.proofs.Refused.{get_member, refused_excludes}
 use Rattle.ff_reflect.proofs.Taken.{tree_orders}
 use Rattle.ff_reflect.proofs.Turned.{tree_flags}
 use Rattle.ff_reflect.proofs.Carry.{parent_of}
@@ -80,19 +80,7 @@ parity_refused pattern faces met tree up e h t f b =
     }
 
 pub refused : (pattern : Pattern) (faces : Faces) (r : Refusal) → HasFaces (paper_of pattern faces) → RefusesFolding pattern.points faces.rings pattern.edges faces.sides faces.marks r → IsRefused pattern faces r
-refused pattern faces (Parity e) h (order, up, in_order, flags, broken) = record {
-  stop = (order, up, in_order, flags, broken);
-  none = λ scale images flagged fold. broken_folds_not (paper_of pattern faces) order up (record { has_faces = h; in_order = in_order }) flags e broken scale images flagged fold;
-}
-refused pattern faces (Inconsistent v) h (order, up, carried, placed, (i, p, goes, torn, is)) = record {
-  stop = (order, up, carried, placed, (i, p, goes, torn, is));
-  none = λ scale images flagged fold. torn_folds_not (paper_of pattern faces) order up carried h placed i p torn scale images flagged fold;
-}
-refused pattern faces (Oversized v) h (order, up, carried, placed, (i, p, goes, far, is)) = record {
-  stop = (order, up, carried, placed, (i, p, goes, far, is));
-  none = λ scale images flagged fold near. far_folds_not (paper_of pattern faces) order up carried h placed i p far scale images flagged fold near;
-}
-refused pattern faces r h nothing = absurd nothing
+refused pattern faces r h w = record { stop = w; none = refused_excludes pattern faces h r w }
 
 pub why_not : (pattern : Pattern) (faces : Faces) (n : No) → HasFaces (paper_of pattern faces) → WhyNotPlaced pattern faces n → WhyNotFolded pattern faces n
 why_not pattern faces (Refused r) h w = refused pattern faces r h w

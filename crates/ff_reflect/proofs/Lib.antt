@@ -25,4 +25,3 @@ pub mod Assembly
 pub mod SomeTrees
 pub mod SomeFoldings
 pub mod OneRefusal
-pub mod SmallPatterns

@@ -15,7 +15,11 @@ use Rattle.ff_types.specs.Faces.{ring_at}
 use Rattle.ff_types.specs.Foldings.{AreNear}
 use Rattle.ff_types.specs.FoldRefusals.{placings, IsTornAt, IsNearAt, IsTooFarAt, ArePlaced, RefusesFolding}
 use Rattle.ff_reflect.specs.Images.{IsAt}
-use Rattle.ff_reflect.specs.Sheets.{Paper, HasFaces}
+use Rattle.ff_reflect.specs.Sheets.{Paper, paper_of, HasFaces}
+use Rattle.ff_reflect.specs.Folding.{Excludes, HasNoNearFolding}
+use Rattle.ff_reflect.specs.Laws.{RefusedDontFold}
+use Rattle.ff_types.specs.declared.patterns.Pattern.{Pattern}
+use Rattle.ff_types.specs.declared.faces.Faces.{Faces}
 use Rattle.ff_reflect.proofs.Cases.{by_below}
 use Rattle.ff_reflect.proofs.Foldings.{Folds, folds_carried, same_from_at, broken_folds_not, place_in}
 
@@ -88,12 +92,18 @@ far_folds_not paper order up carried h placed i p far scale images flags fold ne
   by (negsuc n) e = let q = fold.positive in omega (arith, ints)
 
 -- what a refusal excludes
-pub refused_folds_not : (paper : Paper) → HasFaces paper → (r : Refusal) → RefusesFolding paper.points paper.rings paper.edges paper.sides paper.marks r
-    → (scale : ℤ) (images : List Pt) (flags : List Bool) → Folds paper scale images flags → AreNear images → ⊥
-refused_folds_not paper h (Parity e) (order, up, in_order, flags, broken) scale images ups fold near =
-    broken_folds_not paper order up (record { has_faces = h; in_order = in_order }) flags e broken scale images ups fold
-refused_folds_not paper h (Inconsistent v) (order, up, carried, placed, (i, p, goes, torn, is)) scale images ups fold near =
-    torn_folds_not paper order up carried h placed i p torn scale images ups fold
-refused_folds_not paper h (Oversized v) (order, up, carried, placed, (i, p, goes, far, is)) scale images ups fold near =
-    far_folds_not paper order up carried h placed i p far scale images ups fold near
-refused_folds_not paper h r nothing scale images ups fold near = absurd nothing
+pub refused_excludes : RefusedDontFold
+refused_excludes p faces h (Parity e) (order, up, in_order, flags, broken) = λ scale images ups fold.
+    broken_folds_not (paper_of p faces) order up (record { has_faces = h; in_order = in_order }) flags e broken scale images ups fold
+refused_excludes p faces h (Inconsistent v) (order, up, carried, placed, (i, q, goes, torn, is)) = λ scale images ups fold.
+    torn_folds_not (paper_of p faces) order up carried h placed i q torn scale images ups fold
+refused_excludes p faces h (Oversized v) (order, up, carried, placed, (i, q, goes, far, is)) = λ scale images ups fold near.
+    far_folds_not (paper_of p faces) order up carried h placed i q far scale images ups fold near
+refused_excludes p faces h r nothing = absurd nothing
+
+-- in each case a folding with near points
+pub none_near : (p : Pattern) (faces : Faces) (r : Refusal) → Excludes p faces r → HasNoNearFolding p faces
+none_near p faces (Parity e) none = λ scale images up fold near. none scale images up fold
+none_near p faces (Inconsistent v) none = λ scale images up fold near. none scale images up fold
+none_near p faces (Oversized v) none = none
+none_near p faces r none = absurd none

@@ -8,4 +8,3 @@ pub mod Puts
 pub mod Standing
 pub mod Folding
 pub mod Laws
-pub mod Worked

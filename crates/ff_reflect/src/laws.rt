@@ -6,7 +6,8 @@ pub fn faces_have_one_folding()
     ensures { HaveOneFolding }
 {}
 
-/// A law: faces that are refused have no folding with near points.
+/// A law: faces that are refused don't fold. Where they would have to lie alike and not alike, or don't meet at a vertex,
+/// they fold at no scale; where a coordinate is too large, they have no folding with near points.
 pub fn refused_faces_dont_fold()
     ensures { RefusedDontFold }
 {}

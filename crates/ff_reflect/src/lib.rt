@@ -9,8 +9,6 @@ mod laws;
 mod place;
 mod placed;
 mod sizes;
-#[cfg(test)]
-mod tests;
 mod walk;
 
 pub use folding::fold;

@@ -1,5 +1,5 @@
 //! The constraints that rest on edges, family by family.
-ghost use Rattle.std.specs.Prelude.{◌≡◌, ◌++◌, ◌+◌, ◌≤◌, length, OnOk, IfErr};
+ghost use Rattle.std.specs.Prelude.{◌≡◌, ◌++◌, ◌+◌, ◌≤◌, length, OnOk, IfOk, IfErr};
 ghost use Rattle.ff_types.specs.FoldedPatterns.{IsFoldedPattern};
 ghost use Rattle.ff_types.specs.Sheets.{sheet_of};
 ghost use Rattle.ff_edges.specs.SharedSegments.{AreEdgePairs};
@@ -55,34 +55,33 @@ fn append_families(
 /// segment. The families stand in this order, each in order of its numbers.
 ///
 /// `edge_pairs` and `edge_faces` are those of the folded pattern, and `pairs` has each two overlapping faces.
-/// Refused exactly where the list would be longer than `MOST_CONSTRAINTS`; after an error it has only some of
-/// them. It takes memory for the list, and for two numbers of each folded and flat edge that share a segment.
+/// Refused exactly where the list would be longer than `MOST_CONSTRAINTS`. The list is taken and handed back, so that
+/// after an error nothing was lent. It takes memory for the list, and for two numbers of each folded and flat edge that share a segment.
 pub fn tacos(
     alloc: Global,
-    list: &mut Listing,
+    mut list: Listing,
     pattern: &Pattern,
     faces: &Faces,
     folded: &Folded,
     edge_pairs: &Items<EdgePair>,
     edge_faces: &Items<EdgeFace>,
     pairs: &Pairs,
-) -> Result<(), No>
+) -> Result<Listing, No>
     requires folded { IsFoldedPattern pattern.now faces.now folded.now }
     requires edge_pairs { AreEdgePairs (sheet_of pattern.now faces.now folded.now) edge_pairs.now }
     requires edge_faces { AreEdgeFaces (sheet_of pattern.now faces.now folded.now) edge_faces.now }
     requires pairs { AreNumbered (sheet_of pattern.now faces.now folded.now) pairs.now }
-    requires few { length list.old ≤ most_constraints }
-    ensures made { OnOk result (AddsTacos (sheet_of pattern.now faces.now folded.now) pairs.now list.old
-        list.new) }
-    ensures few { OnOk result (length list.new ≤ most_constraints) }
+    requires few { length list ≤ most_constraints }
+    ensures made { IfOk result (AddsTacos (sheet_of pattern.now faces.now folded.now) pairs.now list) }
+    ensures few { IfOk result (λ listed. length listed ≤ most_constraints) }
     ensures refused { IfErr result (AreTooMany (sheet_of pattern.now faces.now folded.now) pairs.now
-        (length list.old)) }
+        (length list)) }
 {
     let edge_pairs = edge_pairs.as_slice();
     let edge_faces = edge_faces.as_slice();
     let mixed = mixed_pairs(alloc, pattern, faces, folded, edge_pairs)?;
     append_families(
-        list,
+        &mut list,
         pattern,
         faces,
         folded,
@@ -90,5 +89,6 @@ pub fn tacos(
         edge_pairs,
         edge_faces,
         mixed.as_slice(),
-    )
+    )?;
+    Ok(list)
 }

@@ -24,8 +24,10 @@ use Rattle.ff_types.proofs.Computing.{equal_itself}
 use Rattle.ff_types.proofs.ComputedFaces.{joins_is}
 use Rattle.ff_types.proofs.ConvexEdges.{turn-last, turn_cycled, turn_swapped}
 use Rattle.ff_types.proofs.SubRings.{Rises, corner_point, sub_convex}
-use Rattle.ff_types.proofs.CutRings.{inner, outer, inner_rises, outer_rises, inner_goes, inner_closes, inner_steps, outer_goes, outer_crosses, outer_steps, outer_length, outer_first, outer_second}
-use Rattle.ff_types.proofs.PlainSheets.{IsCycle, sweep, no_area, joined_at, some_joins, joins_itself, turned_round, next_once, next_back}
+use Rattle.ff_types.specs.PlainSheets.{IsCycle}
+use Rattle.ff_types.specs.OneCrease.{inner, outer}
+use Rattle.ff_types.proofs.CutRings.{inner_rises, outer_rises, inner_goes, inner_closes, inner_steps, outer_goes, outer_crosses, outer_steps, outer_length, outer_first, outer_second}
+use Rattle.ff_types.proofs.PlainSheets.{sweep, no_area, joined_at, some_joins, joins_itself, turned_round, next_once, next_back}
 use Rattle.ff_types.proofs.OneCrease.{IsChord, which_edge, at_front, at_end, longer}
 
 -- ---- strictly inside a ring of listed corners

@@ -21,7 +21,8 @@ use Rattle.ff_types.specs.Sheets.{Sheet, lies_up}
 use Rattle.ff_types.specs.Inside.{is_inside, depth, Overlap}
 use Rattle.ff_types.proofs.ConvexEdges.{turn-last, turn_cycled, turn_swapped}
 use Rattle.ff_types.proofs.SubRings.{corner_point}
-use Rattle.ff_types.proofs.CutRings.{inner, outer, inner_goes, inner_closes, inner_steps, outer_crosses, outer_steps}
+use Rattle.ff_types.specs.OneCrease.{inner, outer}
+use Rattle.ff_types.proofs.CutRings.{inner_goes, inner_closes, inner_steps, outer_crosses, outer_steps}
 use Rattle.ff_types.proofs.OneCrease.{IsChord}
 use Rattle.ff_types.proofs.FoldedOverlap.{Good, overlap_near, inside_step}
 use Rattle.ff_types.proofs.Computing.{both}

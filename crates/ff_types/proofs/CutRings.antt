@@ -1,5 +1,5 @@
 -- The two lists of corners on either side of a chord from i to j.
-use Rattle.std.proofs.Common.{◌≡◌, ℕ, ◌+◌, ◌-◌, ◌<◌, ◌≤◌, ◌⊎◌, inl, inr, sym, ◌∙◌, ap, subst, arith, List, ◌++◌, length}
+use Rattle.std.proofs.Common.{◌≡◌, ℕ, ◌+◌, ◌-◌, ◌<◌, ◌≤◌, ◌⊎◌, inl, inr, sym, ◌∙◌, ap, subst, arith, length}
 use Rattle.std.specs.List.{range_with_len}
 use Rattle.std.proofs.lemmas.Bool.{cases_lt}
 use Rattle.std.proofs.lemmas.Bool.Decides.{nat_tests}
@@ -7,14 +7,8 @@ use Rattle.std.proofs.lemmas.List.{length-append, get_or_append_left, get_or-app
 use Rattle.std.proofs.lemmas.List.FromFn.{get_or-range_with_len, length-range_with_len}
 use Rattle.ff_whole.specs.Convex.{next}
 use Rattle.ff_types.specs.Rings.{corner, Goes}
+use Rattle.ff_types.specs.OneCrease.{inner, outer}
 use Rattle.ff_types.proofs.SubRings.{Rises}
-
--- from i on to j; and from 0 on to i, and from j on to the last
-abbrev pub inner : ℕ → ℕ → List ℕ
-inner i j = range_with_len i (j + 1 - i)
-
-abbrev pub outer : ℕ → ℕ → ℕ → List ℕ
-outer n i j = range_with_len 0 (i + 1) ++ range_with_len j (n - j)
 
 range_at : (a m k : ℕ) → k < m → corner (range_with_len a m) k ≡ a + k
 range_at a m k h = get_or-range_with_len a m k 0 h

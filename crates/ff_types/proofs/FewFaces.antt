@@ -9,6 +9,8 @@ use Rattle.ff_types.specs.Inside.{is_inside, Overlap}
 use Rattle.ff_types.specs.Stackings.{OrdersOverlaps, IsStacking, CanBeListed}
 use Rattle.ff_types.specs.Crossings.{IsGeometricStacking}
 use Rattle.ff_types.proofs.Computing.{both, equal_itself}
+use Rattle.ff_types.specs.PlainSheets.{no_pairs}
+use Rattle.ff_types.specs.OneCrease.{one_pair}
 use Rattle.ff_types.proofs.TwoFaces.{two_faces_geometric}
 
 -- ---- overlapping faces are faces
@@ -63,9 +65,6 @@ one_face_alone g one f h o = o.differ (same f h (overlap_first g f h o) (overlap
   same : (f h : ℕ) → f < length g.rings → h < length g.rings → f ≡ h
   same f h a b = omega (arith, one, a, b)
 
-abbrev pub no_pairs : ℕ → ℕ → Bool
-no_pairs f h = false
-
 one_listed : (n : ℕ) (p : ℕ → Bool) → n ≡ 1 → CanBeListed no_pairs (filter p (range_with_len 0 n))
 one_listed n p e = subst (λ k. CanBeListed no_pairs (filter p (range_with_len 0 k))) (sym e) (by (p 0)) where
   by : (b : Bool) → CanBeListed no_pairs (cond b (0 ∷ []) [])
@@ -115,10 +114,6 @@ two_faces_stack g above two o orders = two_faces_geometric g above (omega (arith
   left = λ e s p. two_listed (length g.rings) above _ two (orders.one 0 1 o);
   right = λ e s p. two_listed (length g.rings) above _ two (orders.one 0 1 o);
 })
-
--- face x above face y, and no other pair
-abbrev pub one_pair : ℕ → ℕ → ℕ → ℕ → Bool
-one_pair x y f h = (f == x) && (h == y)
 
 -- two faces that overlap are 0 and 1, in either order
 pub which_two : (g : Sheet) (f h : ℕ) → length g.rings ≡ 2 → Overlap g f h → ((f ≡ 0) × (h ≡ 1)) ⊎ ((f ≡ 1) × (h ≡ 0))

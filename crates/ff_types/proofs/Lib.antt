@@ -29,3 +29,4 @@ mod RefusalTests
 pub mod FoldedEdges
 pub mod FoldedOverlap
 pub mod CreaseOverlap
+mod CreasedSheets

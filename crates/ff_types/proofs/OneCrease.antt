@@ -20,7 +20,8 @@ use Rattle.ff_types.specs.Drawings.{IsDrawing, MeetAtEnds, IsEnd, HasTwoEdges, j
 use Rattle.ff_types.proofs.Computing.{equal_itself}
 use Rattle.ff_types.proofs.ComputedFaces.{joins_is}
 use Rattle.ff_types.proofs.ConvexEdges.{inside_alone, turn_mixed, turn-last, turn_cycled, turn_swapped, exchange, corners_turn, none}
-use Rattle.ff_types.proofs.PlainSheets.{IsCycle, plain_drawing}
+use Rattle.ff_types.specs.PlainSheets.{IsCycle}
+use Rattle.ff_types.proofs.PlainSheets.{plain_drawing}
 
 -- ---- one more edge
 

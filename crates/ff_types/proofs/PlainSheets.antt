@@ -4,7 +4,7 @@ use Rattle.std.proofs.Common.{◌≡◌, ◌≢◌, ℕ, zero, suc, ◌+◌, ◌
 use Rattle.std.specs.Prelude.{neg_ℤ}
 use lib.IntN.{*ℤ-zero}
 use Rattle.ff_whole.proofs.Laws.{one-*ℤ}
-use Rattle.std.specs.List.{All, range_with_len}
+use Rattle.std.specs.List.{All}
 use Rattle.std.proofs.lemmas.Int.{ints}
 use Rattle.std.proofs.lemmas.Bool.{false≢true}
 use Rattle.std.proofs.lemmas.Bool.Decides.{nat_tests}
@@ -27,20 +27,12 @@ use Rattle.ff_types.specs.Rings.{corner, after, corners, Goes, IsRing, IsStrictl
 use Rattle.ff_types.specs.Areas.{area, area_from}
 use Rattle.ff_types.specs.Faces.{ring_at, mark_at, Belongs, IsOuter, IsOuterWalk, FitsMark, AreRings}
 use Rattle.ff_types.specs.Sides.{sides_at, AreSides, AreFaces}
+use Rattle.ff_types.specs.PlainSheets.{IsCycle, whole}
 use Rattle.ff_types.specs.Foldings.{IsFolding, FitFlags, KeepsShape, RingKeepsShape, is_up, scaled}
 use Rattle.ff_types.proofs.Computing.{either, equal_itself}
 use Rattle.ff_types.proofs.ComputedFaces.{joins_is, next_inner, next_last}
 use Rattle.ff_types.proofs.ComputedFoldings.{least_one}
 use Rattle.ff_types.proofs.ConvexEdges.{inside_alone, turn-last}
-
--- the edges join each of n vertices to the next
-pub record IsCycle (n : ℕ) (edges : List EdgeEnds) : Type 0 where
-  pub as_many : length edges ≡ n
-  pub joined : (i : ℕ) → i < n → edge_at edges i ≡ record { a = i; b = next n i }
-
--- all vertices in order
-abbrev pub whole : ℕ → List ℕ
-whole n = range_with_len 0 n
 
 -- ---- places of a closed list of at least three
 

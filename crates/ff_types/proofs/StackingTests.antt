@@ -16,11 +16,13 @@ use Rattle.ff_types.specs.Stackings.{IsListing, IsStacking}
 use Rattle.ff_types.specs.Crossings.{circle, IsUncrossed, Alternate, IsGeometricStacking}
 use Rattle.ff_types.specs.Crossings.Side.{Left, Right}
 use Rattle.ff_types.specs.Keeping.{KeepsEdge, KeepsCreases, KeepsOrder, KeepsPins}
-use Rattle.ff_types.specs.Values.{pairs_above}
+use Rattle.ff_types.specs.Assignments.{set_by}
+use Rattle.ff_types.specs.PlainSheets.{no_pairs}
+use Rattle.ff_types.specs.OneCrease.{one_pair}
 use Rattle.ff_types.proofs.Named.{unit, diagonal, crease_v, crease_m, crease_u, slant, strip_212}
 use Rattle.ff_types.proofs.Members.{turned_same, three_rise, one_rises}
 use Rattle.ff_types.proofs.Computing.{both}
-use Rattle.ff_types.proofs.FewFaces.{no_pairs, one_pair, one_face_stacks, one_face_only, two_faces_stack, upper_first, lower_first, two_faces_only}
+use Rattle.ff_types.proofs.FewFaces.{one_face_stacks, one_face_only, two_faces_stack, upper_first, lower_first, two_faces_only}
 
 abbrev at : ℤ → ℤ → ℤ → Place
 at x y w = record { x = x; y = y; w = w }
@@ -184,8 +186,8 @@ pin_on_itself above s k = (s.orders.only 1 1 (k 0 (pin 1 1 Above) refl)).differ 
 
 -- ---- the pairs that values say: variable 0 is of the pair (0, 1)
 
-said_below : (pairs_above ((0, 1) ∷ []) (λ v. Below) 1 0 ≡ true) × (pairs_above ((0, 1) ∷ []) (λ v. Below) 0 1 ≡ false) × (pairs_above ((0, 1) ∷ []) (λ v. Below) 0 0 ≡ false) × (pairs_above ((0, 1) ∷ []) (λ v. Below) 0 2 ≡ false)
+said_below : (set_by ((0, 1) ∷ []) (λ v. Below) 1 0 ≡ true) × (set_by ((0, 1) ∷ []) (λ v. Below) 0 1 ≡ false) × (set_by ((0, 1) ∷ []) (λ v. Below) 0 0 ≡ false) × (set_by ((0, 1) ∷ []) (λ v. Below) 0 2 ≡ false)
 said_below = (refl, refl, refl, refl)
 
-said_above : (pairs_above ((0, 1) ∷ []) (λ v. Above) 0 1 ≡ true) × (pairs_above ((0, 1) ∷ []) (λ v. Above) 1 0 ≡ false)
+said_above : (set_by ((0, 1) ∷ []) (λ v. Above) 0 1 ≡ true) × (set_by ((0, 1) ∷ []) (λ v. Above) 1 0 ≡ false)
 said_above = (refl, refl)

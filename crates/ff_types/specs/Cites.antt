@@ -1,6 +1,6 @@
 -- The constraints of a folded sheet, each by what it rests on: where one holds, and what witnesses it. The families'
 -- names are those of Flat-Folder's documentation; the exact conditions are this project's own.
-use Rattle.std.specs.Prelude.{ℕ, ◌<◌, Bool, true, false, ◌&&◌, ◌||◌, List, [], ◌∷◌, min, max, IsTrue, Option, Some, None}
+use Rattle.std.specs.Prelude.{◌≡◌, ℕ, ◌<◌, Bool, true, false, ◌&&◌, ◌||◌, List, [], ◌∷◌, slice_get, min, max, IsTrue, Option, Some, None}
 use Rattle.std.specs.List.{list_all, All}
 use Rattle.ff_whole.specs.Sizes.{IsSmallPlace}
 use Rattle.ff_types.specs.declared.patterns.Mark.{Mark}
@@ -73,3 +73,7 @@ HasSmallPlaces (Transitivity f h k at) = All IsSmallPlace at
 HasSmallPlaces (TacoFace e face at) = All IsSmallPlace at
 HasSmallPlaces (FlatFace flat face at) = All IsSmallPlace at
 HasSmallPlaces _ = Unit {0}
+
+-- so do the places of each cite of a list
+abbrev pub AreSmall : List Cite → Type 0
+AreSmall cites = (n : ℕ) (c : Cite) → slice_get cites n ≡ Some c → HasSmallPlaces c

@@ -19,7 +19,8 @@ pub mod Segments
 pub mod Cites
 pub mod Terms
 pub mod Cases
-pub mod Values
+pub mod PlainSheets
+pub mod OneCrease
 pub mod Walks
 pub mod FaceRefusals
 pub mod Placing

@@ -4,18 +4,21 @@
 mod cases;
 mod cites;
 mod faces;
+mod laws;
 mod limits;
 mod pairs;
 mod patterns;
 mod pins;
 mod refusals;
-#[cfg(test)]
-mod tests;
 
 pub use cases::{Case, case_of};
 pub use cites::{Cite, Listed};
 pub use faces::{EdgeSides, Faces, Folded};
-pub use limits::{MOST_BYTES, MOST_CONSTRAINTS, MOST_EDGES, MOST_FACES, MOST_VERTICES};
+pub use laws::{one_crease_has_two_faces, plain_sheets_lie_flat};
+pub use limits::{
+    MOST_BYTES, MOST_CELLS, MOST_CONSTRAINTS, MOST_EDGES, MOST_ENTRIES, MOST_FACES, MOST_PAIRS,
+    MOST_VERTICES,
+};
 pub use pairs::{Pairs, pairs_of};
 pub use patterns::{EdgeEnds, Mark, Pattern};
 pub use pins::Pin;

@@ -92,6 +92,7 @@ impl Pairs {
     pub fn count(&self) -> usize
         ensures value { result ≡ length self.now }
         ensures few { result < 2 ^ 32 }
+        ensures pairs { ArePairs self.now }
     {
         self.list.as_slice().len()
     }

@@ -1,5 +1,5 @@
-use Rattle.ff_reflect.proofs.Refused.{refused_folds_not}
+use Rattle.ff_reflect.proofs.Refused.{refused_excludes}
 use Rattle.ff_reflect.proofs.laws.refused_faces_dont_fold.Goals as goal
 
 pub returns : goal.returns
-returns c = refused_folds_not
+returns c = refused_excludes
