@@ -1,23 +1,23 @@
 pub mod Tests
-pub mod Steps
+mod Steps
 pub mod TwoSides
-pub mod Parallels
-pub mod Asides
+mod Parallels
+mod Asides
 pub mod Lying
 pub mod Runs
-pub mod Weights
-pub mod RingEdges
-pub mod Beside
+mod Weights
+mod RingEdges
+mod Beside
 pub mod SideFaces
-pub mod Nearby
-pub mod Middles
+mod Nearby
+mod Middles
 pub mod Running
 pub mod Witnesses
-pub mod PairKeys
-pub mod Matching
-pub mod CoveringFaces
-pub mod FaceTerms
-pub mod SegmentTerms
+mod PairKeys
+mod Matching
+mod CoveringFaces
+mod FaceTerms
+mod SegmentTerms
 pub mod Terms
-pub mod SharedEdges
-pub mod FlatSheets
+mod SharedEdges
+mod FlatSheets

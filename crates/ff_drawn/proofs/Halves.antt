@@ -21,8 +21,6 @@ pub record IsPartTo (P : Extent → Type 0) (list : List Extent) (n : ℕ) (part
   pub all : (k : ℕ) → k < n → P (extent_at list k) → Contains part (extent_at list k)
 
 module _ (P : Extent → Type 0) (list : List Extent) where
-  pub part_of_none : IsPartTo P list 0 []
-  part_of_none = record { only = λ e m. let l = m.1 in absurd (omega (arith, l)); all = λ k l. absurd (omega (arith, l)) }
 
   pub part_skips : (n : ℕ) (part : List Extent) → IsPartTo P list n part → (P (extent_at list n) → ⊥) → IsPartTo P list (n + 1) part
   part_skips n part h not = record {

@@ -1,15 +1,15 @@
 pub mod EdgeCrossings
-pub mod Forks
-pub mod EdgeExtents
-pub mod Halves
-pub mod Eithers
-pub mod SamePoints
+mod Forks
+mod EdgeExtents
+mod Halves
+mod Eithers
+mod SamePoints
 pub mod VertexSpots
-pub mod BoxTests
-pub mod DartOrder
-pub mod SeenDarts
+mod BoxTests
+mod DartOrder
+mod SeenDarts
 pub mod Starts
-pub mod StartTables
+mod StartTables
 pub mod TwoDarts
 pub mod WholeDrawings
 pub mod DartLists

@@ -40,17 +40,6 @@ start_past darts v d l m p = record { within = m; before = p; after = λ k n o b
 pub passed_more : (darts : List Dart) (v d : ℕ) → ArePassed darts v d → (dart_at darts d).tail < v → ArePassed darts v (d + 1)
 passed_more darts v d p l k m = elim (last_or k d m) [ inl n ↦ p k n | inr e ↦ subst (λ j. ComesBefore (dart_at darts j) (first_of v)) (sym e) (inl l) ]
 
-pub passed_next : (darts : List Dart) (v d : ℕ) → IsStart darts (record { tail = v; head = 0 }) d → ArePassed darts (v + 1) d
-passed_next darts v d s k l = let b = before_first (dart_at darts k) v (s.before k l) in inl (omega (arith, b))
-
--- one vertex more
-pub starts_more : (darts : List Dart) (starts : List ℕ) (v d : ℕ) → length starts ≡ v → ((k : ℕ) → k < v → IsStart darts (record { tail = k; head = 0 }) (slice_index starts k))
-    → IsStart darts (record { tail = v; head = 0 }) d → (k : ℕ) → k < v + 1 → IsStart darts (record { tail = k; head = 0 }) (slice_index (starts ++ d ∷ []) k)
-starts_more darts starts v d n h s k l = elim (last_or k v l) [
-  | inl m ↦ rw (get_or_append_left starts (d ∷ []) 0 k (omega (arith, m, n))) (h k m)
-  | inr e ↦ rw (get_or_push starts d 0 k (n ∙ sym e), e) s
-]
-
 -- ---- halving
 
 -- the place of a dart is not before low and not after high
@@ -76,31 +65,3 @@ between darts q low high a b = record {
 }
 
 module _ (darts : List Dart) (q : Dart) (low high middle : ℕ) (o : AreInOrder darts) (b : IsBetween darts q low high) (l : low ≤ middle) (m : middle < high) where
-  pub later_half : ComesBefore (dart_at darts middle) q → IsBetween darts q (middle + 1) high
-  later_half h = record {
-    order = omega (arith, m);
-    within = b.within;
-    before = λ k n. elim (last_or k middle n) [
-      | inl x ↦ before_trans (dart_at darts k) (dart_at darts middle) q (o.rises k middle x (let w = b.within in omega (arith, m, w))) h
-      | inr e ↦ subst (λ j. ComesBefore (dart_at darts j) q) (sym e) h
-    ];
-    after = b.after;
-  }
-
-  pub earlier_half : (ComesBefore (dart_at darts middle) q → ⊥) → IsBetween darts q low middle
-  earlier_half h = record {
-    order = l;
-    within = (let w = b.within in omega (arith, m, w));
-    before = b.before;
-    after = λ k n w g. elim (le_or middle k n) [
-      | inl x ↦ h (before_trans (dart_at darts middle) (dart_at darts k) q (o.rises middle k x w) g)
-      | inr e ↦ h (subst (λ j. ComesBefore (dart_at darts j) q) (sym e) g)
-    ];
-  }
-
-pub found_place : (darts : List Dart) (q : Dart) (low high : ℕ) → high ≤ low → IsBetween darts q low high → IsStart darts q low
-found_place darts q low high l b = record {
-  within = (let o = b.order in let w = b.within in omega (arith, o, w));
-  before = b.before;
-  after = λ k m n. b.after k (omega (arith, l, m)) n;
-}

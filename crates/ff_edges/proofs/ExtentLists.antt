@@ -23,8 +23,6 @@ all_more list from n a b h on here k low l m = elim (last_or k n l) [
 ]
 
 module _ (IsRound : ℕ → Extent → Type 0) where
-  pub extents_none : AreExtents IsRound 0 []
-  extents_none = record { count = λ i. 0; within = λ k l. absurd (omega (arith, l)); round = λ k l. absurd (omega (arith, l)) }
 
   pub extents_more : (n : ℕ) (list : List Extent) (a : Extent) → AreExtents IsRound n list → IsExtent a → IsRound n a → AreExtents IsRound (n + 1) (list ++ a ∷ [])
   extents_more n list a h x r = record {

@@ -96,8 +96,6 @@ module _ (g : Sheet) (e f : ℕ) (p q : Pt) (np : IsNear p) (nq : IsNear q) (spa
 -- ---- the lists
 
 module _ (g : Sheet) where
-  pub faces_none : AreFacesTo g 0 0 []
-  faces_none = rows.listed_none edge_and_face (IsEdgeFace g) (IsCrossed g)
 
   face_of : (e f : ℕ) → HasEdgeInside g f e → f < length g.rings
   face_of e f h = ltb-true f (length g.rings) (both_of (is_face g f) _ (h.inside 1 1 (omega arith) (omega arith))).0

@@ -1,18 +1,18 @@
 pub mod OnWays
-pub mod CommonWays
-pub mod Rows
+mod CommonWays
+mod Rows
 pub mod RingSides
-pub mod OneSide
+mod OneSide
 pub mod Segments
 pub mod PairLists
-pub mod Gaps
-pub mod Clipping
-pub mod PartsInside
+mod Gaps
+mod Clipping
+mod PartsInside
 pub mod FaceSteps
-pub mod FaceParts
-pub mod FaceLists
-pub mod StrictlyInside
-pub mod Eithers
-pub mod ExtentLists
-pub mod BesideFaces
-pub mod ApartEdges
+mod FaceParts
+mod FaceLists
+mod StrictlyInside
+mod Eithers
+mod ExtentLists
+mod BesideFaces
+mod ApartEdges

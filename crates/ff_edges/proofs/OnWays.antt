@@ -137,16 +137,6 @@ module _ (p q : Pt) (s : Place) (long : pos 0 <ℤ dot (minus q p) (minus q p)) 
 pub on_line : (p q a b : Pt) → pos 0 <ℤ dot (minus q p) (minus q p) → turn p q a ≡ pos 0 → turn p q b ≡ pos 0 → turn a b p ≡ pos 0
 on_line p q a b long h k = turn-rotate p a b ∙ parallel-both (minus q p) (minus a p) (minus b p) long h k
 
-pub on_line_too : (p q a b : Pt) → pos 0 <ℤ dot (minus q p) (minus q p) → turn p q a ≡ pos 0 → turn p q b ≡ pos 0 → turn a b q ≡ pos 0
-on_line_too p q a b long h k =
-    let e = turn-swap p q a in let f = turn-swap p q b in
-    on_line q p a b (subst (λ z. pos 0 <ℤ z) (same p q) long) (omega (arith, linear)) (omega (arith, linear))
-  where
-    same : (p q : Pt) → dot (minus q p) (minus q p) ≡ dot (minus p q) (minus p q)
-    same p q =
-        let p' = point_e 0 in let q' = point_e 2 in
-        solve (point_env p (point_env q [])) (dot_e (minus_e q' p') (minus_e q' p')) (dot_e (minus_e p' q') (minus_e p' q')) refl
-
 rise-ends : (l : Line) (p q : Pt) → l.a *ℤ (q.x -ℤ p.x) +ℤ l.b *ℤ (q.y -ℤ p.y) ≡ height l (place_of q) -ℤ height l (place_of p)
 rise-ends l p q =
     let l' = line_e 0 in let p' = point_e 3 in let q' = point_e 5 in

@@ -77,9 +77,6 @@ key_is x e k p q = λ i. (p i, q i)
 pub pairs_take : (g : Sheet) (e k : ℕ) (list : List EdgePair) (x : EdgePair) → (x.e ≡ e) × (x.e2 ≡ k) × IsEdgePair g x → ArePairsTo g e k list → ArePairsTo g e (k + 1) (list ++ x ∷ [])
 pairs_take g e k list x h s = rows.take edges_of_pair (IsEdgePair g) (IsWanted g) e k list x (key_is x e k h.0 h.1) h.2 s
 
-pub pairs_none : (g : Sheet) → ArePairsTo g 0 0 []
-pairs_none g = rows.listed_none edges_of_pair (IsEdgePair g) (IsWanted g)
-
 pub pairs_are : (g : Sheet) (n : ℕ) (list : List EdgePair) → length g.edges ≤ n → ArePairsTo g n 0 list → AreEdgePairs g list
 pairs_are g n list far s = record {
   each = λ m c e. (s.only m c e).0;

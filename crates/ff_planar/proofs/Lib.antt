@@ -1,36 +1,36 @@
-pub mod Boxes
-pub mod Neighbours
-pub mod NextDarts
-pub mod CyclicSums
-pub mod SameWalks
-pub mod Orbits
-pub mod NextTables
-pub mod OrbitWalks
-pub mod AreaSums
-pub mod FilledSides
-pub mod TracedWalks
-pub mod TraceSteps
-pub mod FoundDarts
-pub mod RingReads
-pub mod RingTests
-pub mod UnbentRings
-pub mod OuterDarts
-pub mod Rims
-pub mod EdgePoints
-pub mod InnerEdges
-pub mod RingsFrom
-pub mod SameRings
-pub mod Chains
-pub mod FacesFrom
-pub mod RingWalks
-pub mod FacesWalks
-pub mod SortedRings
+mod Boxes
+mod Neighbours
+mod NextDarts
+mod CyclicSums
+mod SameWalks
+mod Orbits
+mod NextTables
+mod OrbitWalks
+mod AreaSums
+mod FilledSides
+mod TracedWalks
+mod TraceSteps
+mod FoundDarts
+mod RingReads
+mod RingTests
+mod UnbentRings
+mod OuterDarts
+mod Rims
+mod EdgePoints
+mod InnerEdges
+mod RingsFrom
+mod SameRings
+mod Chains
+mod FacesFrom
+mod RingWalks
+mod FacesWalks
+mod SortedRings
 pub mod FacesOnce
-pub mod ReachedFaces
-pub mod LinkedFaces
-pub mod NoFaces
-pub mod GivenFaces
+mod ReachedFaces
+mod LinkedFaces
+mod NoFaces
+mod GivenFaces
 pub mod Stages
-pub mod SomeTraces
+mod SomeTraces
 pub mod SomeFaces
 pub mod GivenNotRefused

@@ -89,14 +89,6 @@ some_same v w e = cc
 none_not : (v : ℕ) → Some v ≡ None → ⊥
 none_not v e = cc
 
-pub out_none : (darts : List Dart) (sides : List Side) → IsLastOut darts sides 0 None
-out_none darts sides = record {
-  none = λ e k l. absurd (omega (arith, l));
-  some = λ v e. absurd (none_not v (sym e));
-  low = λ v e k l. absurd (omega (arith, l));
-  single = λ i j v l m. absurd (omega (arith, m));
-}
-
 pub out_skip : (darts : List Dart) (sides : List Side) (d : ℕ) (last : Option ℕ) → IsLastOut darts sides d last → (side_at sides d ≡ Outside → ⊥) → IsLastOut darts sides (d + 1) last
 out_skip darts sides d last h n = record {
   none = λ e k l s. elim (last_or k d l) [ inl m ↦ h.none e k m s | inr f ↦ n (subst (λ j. side_at sides j ≡ Outside) f s) ];

@@ -61,9 +61,6 @@ linked_on sides f g h l s = join sides f g h l.0 l.1 s
 last_or : (k n : ℕ) → k < n + 1 → (k < n) ⊎ (k ≡ n)
 last_or k n l = grind arith
 
-pub pass_none : (sides : List EdgeSides) (xs : List Bool) → PassedTo sides 0 xs xs false
-pass_none sides xs = record { as_many = refl; kept = λ f t. t; linked = λ h f t. h f t; still = λ _. (refl, λ e l. absurd (omega (arith, l))); more = λ e. absurd (false≢true e) }
-
 module _ (sides : List EdgeSides) (n : ℕ) (l : n < length sides) (old mid new : List Bool) where
   linked_more : (b : Bool) (s : Stepped (sides_at sides n).left (sides_at sides n).right mid new b) → ((f : ℕ) → reached_at mid f ≡ true → AreLinked sides 0 f) → (f : ℕ) → reached_at new f ≡ true → AreLinked sides 0 f
   linked_more b s h f t = elim (s.from f t) [
@@ -136,12 +133,3 @@ first_reached xs l = get_or-set_same xs 0 true false l
 
 pub only_first : (sides : List EdgeSides) (xs : List Bool) → ((f : ℕ) → reached_at xs f ≡ false) → (f : ℕ) → reached_at (slice_set xs 0 true) f ≡ true → AreLinked sides 0 f
 only_first sides xs none f h = elim (from_set xs 0 f h) [ inl t ↦ absurd (false≢true (sym (none f) ∙ t)) | inr e ↦ ([], sym e) ]
-
-pub none_reached : (n : ℕ) (xs : List Bool) → xs ≡ replicate n false → (k : ℕ) → reached_at xs k ≡ false
-none_reached n xs e k = ap (λ s. reached_at s k) e ∙ elim (below_or k n) [
-  | inl l ↦ get_or-replicate n k false false l
-  | inr l ↦ get_or-eq_default (replicate n false) false (let m = length-replicate n false in omega (arith, l, m))
-]
-  where
-    below_or : (i n : ℕ) → (i < n) ⊎ (n ≤ i)
-    below_or i n = grind arith

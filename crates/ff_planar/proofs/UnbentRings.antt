@@ -13,20 +13,6 @@ use Rattle.ff_planar.specs.Reflex.{IsUnbent, AreDifferent}
 use Rattle.ff_planar.specs.Joining.{reached_at}
 use Rattle.ff_planar.proofs.RingTests.{corners_length, left_is}
 
--- one vertex more, where those before it are marked and it isn't
-pub different_more : (marked : List Bool) (ring : List ℕ) (n : ℕ) → ((k : ℕ) → k < n → reached_at marked (corner ring k) ≡ true) → reached_at marked (corner ring n) ≡ false
-    → AreDifferent ring n → AreDifferent ring (n + 1)
-different_more marked ring n met new d i j l m e = elim (cases_lt i n) [
-  | inl a ↦ elim (cases_lt j n) [
-    | inl b ↦ d i j a b e
-    | inr b ↦ let z : n ≡ j = omega (arith, m, b) in absurd (false≢true (sym new ∙ ap (λ k. reached_at marked (corner ring k)) z ∙ ap (reached_at marked) (sym e) ∙ met i a))
-  ]
-  | inr a ↦ elim (cases_lt j n) [
-    | inl b ↦ let z : n ≡ i = omega (arith, l, a) in absurd (false≢true (sym new ∙ ap (λ k. reached_at marked (corner ring k)) z ∙ ap (reached_at marked) e ∙ met j b))
-    | inr b ↦ omega (arith, l, m, a, b)
-  ]
-]
-
 module _ (points : List Pt) (ring : List ℕ) where
   in_list : (i : ℕ) → i < length ring → i < length (corners points ring)
   in_list i l = let e = corners_length points ring in omega (arith, l, e)

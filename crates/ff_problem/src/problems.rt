@@ -55,7 +55,7 @@ fn case_of_folded(
 /// sheet: an assignment meets its constraints exactly where its pairs are a geometric stacking.
 ///
 /// Refused exactly where the pattern is no drawing with at most 2048 faces, its faces have no folding with coordinates
-/// below 2^20, or the folded sheet has more than 2^20 slab cells, 2^24 entries, 2^18 pairs or 2^22 constraints; by the
+/// below `POINT_SIZE`, or the folded sheet has more than 2^20 slab cells, 2^24 entries, 2^18 pairs or 2^22 constraints; by the
 /// first that holds.
 pub fn problem_of(alloc: Global, pattern: &Pattern) -> Result<Problem, No>
     requires { 1 ≤ length pattern.now.points }

@@ -1,7 +1,7 @@
 pub mod Lists
-pub mod Outcomes
+mod Outcomes
 pub mod OneReading
-pub mod Sizes
-pub mod Good
-pub mod SeenEdges
-pub mod Texts
+mod Sizes
+mod Good
+mod SeenEdges
+mod Texts

@@ -105,10 +105,3 @@ have_seen_more n xs new old after h i u = record {
   has = λ k l. has_more n xs new old after h u k (long xs new k l);
   only = λ q t. only_more n xs new old q (is_at (nat_cmp (edge_key new)) q) h refl (sym (u q) ∙ t);
 }
-
-pub have_seen_nothing : (n : ℕ) (seen : BTreeSet ℕ) → seen.keys ≡ [] → HaveSeen n [] seen
-have_seen_nothing n seen e = record {
-  good = record { joins = λ k l. absurd (omega (arith, l)); once = λ k i l m. absurd (omega (arith, m)) };
-  has = λ k l. absurd (omega (arith, l));
-  only = λ q t. absurd (false≢true (ap (list_any (is_at (nat_cmp q))) (sym e) ∙ t));
-}

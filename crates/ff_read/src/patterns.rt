@@ -17,7 +17,7 @@ use ff_whole::Pt;
 use serde_json::Value;
 use std::alloc::Global;
 
-// The first point with a coordinate of 2^20 or more in size.
+// The first point with a coordinate past the limit in size.
 fn first_far(points: &[Pt]) -> Option<usize>
     ensures { FirstFar points.now result }
 {

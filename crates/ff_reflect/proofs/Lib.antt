@@ -1,27 +1,27 @@
-pub mod Cases
-pub mod Shapes
-pub mod Growth
-pub mod Firsts
-pub mod Meetings
-pub mod Across
-pub mod Orders
-pub mod Foldings
+mod Cases
+mod Shapes
+mod Growth
+mod Firsts
+mod Meetings
+mod Across
+mod Orders
+mod Foldings
 pub mod Refused
 pub mod OneFolding
-pub mod Motions
-pub mod Carried
-pub mod Indexed
-pub mod Walks
-pub mod Taken
-pub mod Turned
-pub mod Products
-pub mod Puts
-pub mod Stand
-pub mod Stops
-pub mod Carry
-pub mod CarrySteps
-pub mod Whole
+mod Motions
+mod Carried
+mod Indexed
+mod Walks
+mod Taken
+mod Turned
+mod Products
+mod Puts
+mod Stand
+mod Stops
+mod Carry
+mod CarrySteps
+mod Whole
 pub mod Assembly
-pub mod SomeTrees
+mod SomeTrees
 pub mod SomeFoldings
 pub mod OneRefusal

@@ -16,7 +16,7 @@ use std::alloc::Global;
 ///
 /// It is refused by the first stop of the walk in placing order: an edge whose two faces would have to lie alike and
 /// not alike; else a vertex at which the folded faces don't meet, or at whose placing a scaled coordinate comes to
-/// 2^20 or more.
+/// `POINT_SIZE` or more.
 pub fn fold(alloc: Global, pattern: &Pattern, faces: &Faces) -> Result<Folded, No>
     requires drawing { IsDrawing pattern.now.points pattern.now.edges }
     requires faces { AreFaces pattern.now.points pattern.now.edges pattern.now.marks faces.now.rings faces.now.sides faces.now.marks }

@@ -26,4 +26,3 @@ pub use orders::Order;
 pub use systems::System;
 pub use terms::{Constraint, Kind, Term, Terms, terms_of};
 pub use texts::Text;
-

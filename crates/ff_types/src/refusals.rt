@@ -41,7 +41,7 @@ pub enum Refusal {
     BadKey { key: Key },
     /// An item of `vertices_coords` isn't `[x, y]` or `[x, y, 0]` of whole numbers within 64 bits.
     BadVertex { v: u32 },
-    /// A coordinate is 2^20 or more in size.
+    /// A coordinate is `POINT_SIZE` or more in size.
     FarVertex { v: u32 },
     /// An item of `edges_vertices` isn't two different vertices, or joins two that an earlier edge joins.
     BadEdge { e: u32 },
@@ -67,7 +67,7 @@ pub enum Refusal {
     Parity { e: u32 },
     /// The folded faces don't meet at a vertex.
     Inconsistent { v: u32 },
-    /// A scaled coordinate of a folded vertex would be 2^20 or more in size.
+    /// A scaled coordinate of a folded vertex would be `POINT_SIZE` or more in size.
     Oversized { v: u32 },
     /// There is more of something than the limit.
     TooMany { what: What, limit: u64 },

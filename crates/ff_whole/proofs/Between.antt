@@ -1,11 +1,11 @@
 -- A place between a lower and an upper edge: right of no line that no end of the two edges is right of.
 -- The lower edge goes to the right, from p to q, and the upper one to the left, from s to r, as in a ring that goes
 -- round counterclockwise.
-use Rattle.std.proofs.Common.{◌≡◌, ◌≢◌, ◌⊎◌, inl, inr, refl, arith, ℤ, pos, ◌+ℤ◌, ◌-ℤ◌, ◌*ℤ◌, ◌<ℤ◌, ◌≤ℤ◌, [], ◌∷◌}
+use Rattle.std.proofs.Common.{◌≡◌, refl, arith, ℤ, pos, ◌+ℤ◌, ◌-ℤ◌, ◌*ℤ◌, ◌<ℤ◌, ◌≤ℤ◌, [], ◌∷◌}
 use lib.IntN.{*ℤ_comm}
 use Rattle.ff_whole.proofs.Formulas.{point_e, point_env, line_e, line_env, place_e, place_env, place_of_e, through_e, height_e}
-use Rattle.ff_whole.proofs.Ring.{var, num, ◌⊕◌, ◌⊖◌, ◌⊗◌, opp, solve, solve_from}
-use Rattle.ff_whole.proofs.Signs.{linear, by_sign, pos-mul, nonneg-mul, nonneg-mul_nonpos, zero-mul, nonneg_from_mul, zero_from_mul, zero_product}
+use Rattle.ff_whole.proofs.Ring.{var, ◌⊕◌, ◌⊖◌, ◌⊗◌, solve, solve_from}
+use Rattle.ff_whole.proofs.Signs.{linear, by_sign, pos-mul, nonneg-mul, nonneg-mul_nonpos, zero-mul, nonneg_from_mul, zero_from_mul}
 use Rattle.ff_whole.specs.Places.{place_of, through, height}
 use Rattle.ff_whole.specs.declared.points.Pt.{Pt}
 use Rattle.ff_whole.specs.declared.lines.Line.{Line}
@@ -22,14 +22,6 @@ height-along l p q m =
     let l' = line_e 0 in let p' = point_e 3 in let q' = point_e 5 in let m' = place_e 7 in
     solve (line_env l (point_env p (point_env q (place_env m [])))) ((q'.x ⊖ p'.x) ⊗ height_e l' m')
     (((m'.x ⊖ p'.x ⊗ m'.w) ⊗ height_e l' (place_of_e q') ⊖ (m'.x ⊖ q'.x ⊗ m'.w) ⊗ height_e l' (place_of_e p')) ⊕ height_e (through_e p' q') m' ⊗ l'.b) refl
-
--- the same, from what is below the way back
-pub height-along_back : (l : Line) (r s : Pt) (m : Place) → (s.x -ℤ r.x) *ℤ height l m
-    ≡ (after r m *ℤ height l (place_of s) -ℤ after s m *ℤ height l (place_of r)) -ℤ height (through s r) m *ℤ l.b
-height-along_back l r s m =
-    let l' = line_e 0 in let r' = point_e 3 in let s' = point_e 5 in let m' = place_e 7 in
-    solve (line_env l (point_env r (point_env s (place_env m [])))) ((s'.x ⊖ r'.x) ⊗ height_e l' m')
-    (((m'.x ⊖ r'.x ⊗ m'.w) ⊗ height_e l' (place_of_e s') ⊖ (m'.x ⊖ s'.x ⊗ m'.w) ⊗ height_e l' (place_of_e r')) ⊖ height_e (through_e s' r') m' ⊗ l'.b) refl
 
 -- ---- the arithmetic: f is the height asked, e and g those over the two edges, u and v what the edges' ends add
 
@@ -102,52 +94,3 @@ module _ (l : Line) (p q s r : Pt) (m : Place) (t : IsBetweenEdges p q s r m) (h
 
   abbrev high : ℤ
   high = after r m *ℤ height l (place_of s) -ℤ after s m *ℤ height l (place_of r)
-
-  low_nonneg : pos 0 ≤ℤ low
-  low_nonneg =
-      ends (after p m) (after q m) (height l (place_of p)) (height l (place_of q)) t.after_p t.before_q h.at_p h.at_q
-
-  high_nonneg : pos 0 ≤ℤ high
-  high_nonneg =
-      ends (after r m) (after s m) (height l (place_of r)) (height l (place_of s)) t.after_r t.before_s h.at_r h.at_s
-
-  wide_low : pos 0 <ℤ (q.x -ℤ p.x)
-  wide_low = let e = t.rightwards in omega (arith, linear)
-
-  wide_high : pos 0 <ℤ (s.x -ℤ r.x)
-  wide_high = let e = t.leftwards in omega (arith, linear)
-
-  -- a place between two edges is right of no line that none of their ends is right of
-  pub not_right-between : pos 0 ≤ℤ height l m
-  not_right-between =
-      not_below (q.x -ℤ p.x) (s.x -ℤ r.x) (height (through p q) m) (height (through s r) m) low high l.b (height l m)
-      wide_low wide_high t.above t.below low_nonneg high_nonneg (height-along l p q m) (height-along_back l r s m)
-
-  -- and strictly left of it where it is strictly between the edges, and strictly between the ends of the lower one in x
-  pub left-between : (l.a ≢ pos 0) ⊎ (l.b ≢ pos 0) → pos 0 <ℤ height (through p q) m
-      → pos 0 <ℤ height (through s r) m → pos 0 <ℤ after p m → after q m <ℤ pos 0 → pos 0 <ℤ height l m
-  left-between direction above below right left =
-      let weak = not_right-between in
-      by_sign (height l m)
-      (λ less. absurd (omega (arith, linear)))
-      (λ zero. absurd (vertical zero (level (q.x -ℤ p.x) (s.x -ℤ r.x) (height (through p q) m) (height (through s r) m) low high l.b (height l m)
-      wide_low wide_high t.above t.below low_nonneg high_nonneg (height-along l p q m) (height-along_back l r s m) above below zero)))
-      (λ more. more)
-    where
-      -- a vertical line through the place and p, which is left of the place
-      vertical : height l m ≡ pos 0 → (low ≡ pos 0) × (l.b ≡ pos 0) → ⊥
-      vertical zero f =
-          let level = f.0 in
-          let steep = f.1 in
-          let at_q = nonneg-mul (after p m) (height l (place_of q)) t.after_p h.at_q in
-          let at_p = nonneg-mul_nonpos (height l (place_of p)) (after q m) h.at_p t.before_q in
-          let c = *ℤ_comm (after q m) (height l (place_of p)) in
-          let product : after q m *ℤ height l (place_of p) ≡ pos 0 = omega (arith, linear) in
-          let p0 : height l (place_of p) ≡ pos 0 = elim (zero_product (after q m) (height l (place_of p)) product) [ inl z ↦ absurd (omega (arith, linear)) | inr z ↦ z ] in
-          let a0 : after p m *ℤ l.a ≡ pos 0 =
-          solve_from (line_env l (point_env p (place_env m [])))
-          (record { by = num (pos 1); zero = height_e (line_e 0) (place_e 5) }
-          ∷ record { by = opp (var 7); zero = height_e (line_e 0) (place_of_e (point_e 3)) }
-          ∷ record { by = opp (var 6 ⊖ var 4 ⊗ var 7); zero = var 1 } ∷ [])
-          ((var 5 ⊖ var 3 ⊗ var 7) ⊗ var 0) (num (pos 0)) refl (zero, (p0, (steep, tt))) in
-          elim direction [ inl n ↦ n (zero_from_mul (after p m) l.a right a0) | inr n ↦ n steep ]

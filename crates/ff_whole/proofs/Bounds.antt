@@ -5,10 +5,9 @@
 -- `fits_exactly` closes a goal of no overflow, `e.is` an equation of the result, `e.size` a bound on it, and `sign_exactly`,
 -- `zero_exactly` and `apart_exactly` close signs and tests. Each `tt` is the test that the bound fits the type, which computes.
 -- The bounds come out by themselves, so a proof holds for any sizes that fit.
-use Rattle.std.proofs.Common.{◌≡◌, ℕ, zero, suc, ◌+◌, ◌*◌, ◌^◌, ◌<◌, ◌≤◌, arith, refl, sym, ap, ◌∙◌, ℤ, pos, negsuc, ◌+ℤ◌, ◌*ℤ◌, unsigned_abs, FitsSigned, to_z, of_z, mul-le-mul, subst, lit<, le_refl, ◌<ℤ◌, ◌≤ℤ◌, ◌≢◌, true, false}
+use Rattle.std.proofs.Common.{◌≡◌, ℕ, zero, suc, ◌+◌, ◌*◌, ◌^◌, ◌<◌, ◌≤◌, arith, refl, sym, ap, ◌∙◌, ℤ, pos, negsuc, ◌+ℤ◌, ◌*ℤ◌, unsigned_abs, FitsSigned, to_z, of_z, mul-le-mul, subst, lit<, le_refl, ◌<ℤ◌, ◌≢◌, true}
 use borrow.Author.Differences.{true_is_lt}
 use lib.Signed.{lt_z}
-use Rattle.ff_whole.proofs.Signs.{zero_from_sign}
 use lib.IntN.{◌-ℤ◌, neg_ℤ, +ℤ_idl}
 use lib.Dec.{T, leb, leb→le}
 use mir.Syntax.{Width, w8, w16, w32, w64, w128}
@@ -57,10 +56,6 @@ fits w {m} {a} h t = let l = leb→le m (2 ^ hbits w) t in let f = h.below in fi
 -- a number that fits comes back from its bits
 pub back : (w : Width) {m : ℕ} {a : ℤ} → IsBelow m a → T (leb m (2 ^ hbits w)) → to_z w (of_z w a) ≡ a
 back w {m} {a} h t = Facts.to_z-of_z {w = w} {z = a} (fits w h t)
-
--- and keeps its size
-pub below-back : (w : Width) {m : ℕ} {a : ℤ} → IsBelow m a → T (leb m (2 ^ hbits w)) → IsBelow m (to_z w (of_z w a))
-below-back w {m} {a} h t = subst (IsBelow m) (sym (back w h t)) h
 
 -- ---- what code computes: x is the term of a goal, with its trips to bits and back, and z the number that it is
 pub record Exactly (m : ℕ) (x z : ℤ) : Type 0 where
@@ -180,24 +175,10 @@ pub zero_above : (x z : ℤ) → x ≡ int_signum z → pos 0 <ℤ z → lt_z (p
 zero_above x (pos n) e h = sym (true_is_lt (pos 0) x (omega (arith, ints)))
 zero_above x (negsuc n) e h = absurd (omega (arith, ints))
 
--- where `s > 0` failed, z is not above 0
-pub not_above_zero : (x z : ℤ) → x ≡ int_signum z → lt_z (pos 0) x ≡ false → z ≤ℤ pos 0
-not_above_zero x (pos n) e h = omega (arith, ints)
-not_above_zero x (negsuc n) e h = omega (arith, ints)
-
 -- where `s < 0` succeeded, z is below 0
 pub below_zero : (x z : ℤ) → x ≡ int_signum z → lt_z x (pos 0) ≡ true → z <ℤ pos 0
 below_zero x (pos n) e h = absurd (omega (arith, ints))
 below_zero x (negsuc n) e h = omega (arith, ints)
-
--- where `s < 0` failed, z is not below 0
-pub not_below_zero : (x z : ℤ) → x ≡ int_signum z → lt_z x (pos 0) ≡ false → pos 0 ≤ℤ z
-not_below_zero x (pos n) e h = omega (arith, ints)
-not_below_zero x (negsuc n) e h = absurd (omega (arith, ints))
-
--- `s == 0`, which compares bits
-pub is_zero : (w : Width) (z : ℤ) {s : ℤ} → s ≡ int_signum z → T (leb 2 (2 ^ hbits w)) → of_z w s ≡ 0 → z ≡ pos 0
-is_zero w z {s} e t h = zero_from_sign z (sym (sign_read w z e t) ∙ ap (to_z w) h ∙ to_z_zero w)
 
 -- `s == 0`, where it failed
 pub not_zero : (w : Width) (z : ℤ) {s : ℤ} → s ≡ int_signum z → (of_z w s ≡ 0 → ⊥) → z ≢ pos 0

@@ -1,9 +1,9 @@
 -- Places added up with weights: their heights are added up with the same weights.
-use Rattle.std.proofs.Common.{◌≡◌, refl, arith, ◌∙◌, ℤ, pos, ◌+ℤ◌, ◌*ℤ◌, ◌<ℤ◌, ◌≤ℤ◌, [], ◌∷◌}
+use Rattle.std.proofs.Common.{◌≡◌, refl, arith, ◌∙◌, ℤ, pos, ◌+ℤ◌, ◌*ℤ◌, ◌<ℤ◌, [], ◌∷◌}
 use lib.IntN.{neg_ℤ}
 use Rattle.ff_whole.proofs.Formulas.{PlaceE, place_e, place_env, line_e, line_env, height_e}
 use Rattle.ff_whole.proofs.Ring.{Expr, var, num, ◌⊕◌, ◌⊗◌, opp, solve}
-use Rattle.ff_whole.proofs.Signs.{linear, pos-mul, nonneg-mul}
+use Rattle.ff_whole.proofs.Signs.{linear, pos-mul}
 use Rattle.ff_whole.specs.Places.{height}
 use Rattle.ff_whole.specs.declared.lines.Line.{Line}
 use Rattle.ff_whole.specs.declared.places.Place.{Place}
@@ -34,18 +34,6 @@ left-combine l a p b q f g h k =
     let v = pos-mul b (height l q) g k in
     omega (arith, linear)
 
--- places right of no line add up to such a place, with weights that are not negative
-pub not_right-combine : (l : Line) (a : ℤ) (p : Place) (b : ℤ) (q : Place) → pos 0 ≤ℤ a → pos 0 ≤ℤ b
-    → pos 0 ≤ℤ height l p → pos 0 ≤ℤ height l q → pos 0 ≤ℤ height l (combine a p b q)
-not_right-combine l a p b q f g h k =
-    omega (arith, linear, height-combine l a p b q, nonneg-mul a (height l p) f h, nonneg-mul b (height l q) g k)
-
--- and to one left of it, where one of them is left of it and has a positive weight
-pub left-combine_one : (l : Line) (a : ℤ) (p : Place) (b : ℤ) (q : Place) → pos 0 <ℤ a → pos 0 ≤ℤ b
-    → pos 0 <ℤ height l p → pos 0 ≤ℤ height l q → pos 0 <ℤ height l (combine a p b q)
-left-combine_one l a p b q f g h k =
-    omega (arith, linear, height-combine l a p b q, pos-mul a (height l p) f h, nonneg-mul b (height l q) g k)
-
 -- ---- where a segment crosses a line
 
 -- where the segment from p to q crosses the line l
@@ -58,12 +46,3 @@ height-crossing l p q = height-combine l (neg_ℤ (height l q)) p (height l p) q
   where
     cancel : (u v : ℤ) → neg_ℤ v *ℤ u +ℤ u *ℤ v ≡ pos 0
     cancel u v = solve (u ∷ v ∷ []) (opp (var 1) ⊗ var 0 ⊕ var 0 ⊗ var 1) (num (pos 0)) refl
-
--- and it is a place, where p is left of the line and q right of it
-pub crossing-positive : (l : Line) (p q : Place) → pos 0 <ℤ p.w → pos 0 <ℤ q.w → pos 0 <ℤ height l p
-    → height l q <ℤ pos 0 → pos 0 <ℤ (crossing l p q).w
-crossing-positive l p q f g h k =
-    let n : pos 0 <ℤ neg_ℤ (height l q) = omega (arith, linear) in
-    let u = pos-mul (neg_ℤ (height l q)) p.w n f in
-    let v = pos-mul (height l p) q.w h g in
-    omega (arith, linear)

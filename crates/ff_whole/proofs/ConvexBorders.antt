@@ -1,7 +1,7 @@
 -- A place that is right of no edge of a convex ring, and on the line of one of them, lies on one of its edges.
 -- From the edge on whose line it is, the ring is walked towards the place. Until it is passed, each edge keeps to that
 -- line, and each step comes closer to the place by one at least.
-use Rattle.std.proofs.Common.{◌≡◌, ◌⊎◌, inl, inr, ℕ, zero, suc, ◌<◌, List, length, arith, ◌∙◌, sym, subst, ℤ, pos, negsuc, ◌<ℤ◌, ◌≤ℤ◌}
+use Rattle.std.proofs.Common.{◌≡◌, ◌⊎◌, inl, inr, ℕ, zero, suc, ◌<◌, arith, ◌∙◌, sym, subst, ℤ, pos, negsuc, ◌<ℤ◌, ◌≤ℤ◌}
 use lib.IntN.{neg_ℤ}
 use Rattle.std.proofs.lemmas.Int.{ints}
 use Rattle.ff_whole.proofs.Signs.{linear, by_sign, pos-mul, zero-mul}
@@ -11,7 +11,7 @@ use Rattle.ff_whole.proofs.Searches.{search}
 use Rattle.ff_whole.proofs.Offsets.{off, height-off, cross-off, dot-off}
 use Rattle.ff_whole.proofs.OnEdges.{IsOn, long_from_left, on_start, on_between, keeps_on, keeps_on_back, same_direction}
 use Rattle.ff_whole.specs.Points.{minus, dot, cross, turn}
-use Rattle.ff_whole.specs.Convex.{next, point_at, IsConvex}
+use Rattle.ff_whole.specs.Convex.{next}
 use Rattle.ff_whole.specs.Places.{through, height}
 use Rattle.ff_whole.specs.declared.points.Pt.{Pt}
 use Rattle.ff_whole.specs.declared.places.Place.{Place}
@@ -20,10 +20,6 @@ use Rattle.ff_whole.specs.declared.places.Place.{Place}
 pub record IsConvexRing (n : ℕ) (v : ℕ → Pt) : Type 0 where
   pub left : (i j : ℕ) → i < n → j < n → pos 0 ≤ℤ turn (v i) (v (next n i)) (v j)
   pub wide : (i : ℕ) → i < n → (j : ℕ) × (j < n) × (pos 0 <ℤ turn (v i) (v (next n i)) (v j))
-
--- a convex list of points is such a ring
-pub ring_of_list : (points : List Pt) → IsConvex points → IsConvexRing (length points) (point_at points)
-ring_of_list points h = record { left = h.left; wide = h.wide }
 
 -- the place is right of no edge of the ring
 abbrev pub IsNotOutside : ℕ → (ℕ → Pt) → Place → Type 0

@@ -3,7 +3,7 @@ use Rattle.std.proofs.Common.{ℕ, suc, ◌<◌, arith, pos, ◌<ℤ◌, ◌≤�
 use lib.IntN.{*ℤ_comm}
 use Rattle.ff_whole.proofs.Signs.{linear, pos_from_mul}
 use Rattle.ff_whole.proofs.Turns.{height-back}
-use Rattle.ff_whole.proofs.Triangles.{heights-sum, not_right-triangle, left-triangle, sign_turns}
+use Rattle.ff_whole.proofs.Triangles.{heights-sum, left-triangle, sign_turns}
 use Rattle.ff_whole.specs.Points.{turn}
 use Rattle.ff_whole.specs.Places.{place_of, through, height}
 use Rattle.ff_whole.specs.declared.points.Pt.{Pt}
@@ -41,18 +41,6 @@ fan v n m h =
     let low = r.3 in
     let turned = height-back (v 0) (v (suc (suc r.0))) m in
     (r.0, lt, in_triangle (v 0) (v (suc r.0)) (v (suc (suc r.0))) m h.positive r.2 (h.edges (suc r.0) (omega arith)) (omega (arith, linear)))
-
--- a place inside a ring is right of no line that no vertex is right of
-pub not_right-ring : (v : ℕ → Pt) (n : ℕ) (m : Place) → IsInside v n m → (l : Line)
-    → ((i : ℕ) → i < suc (suc n) → pos 0 ≤ℤ height l (place_of (v i))) → pos 0 ≤ℤ height l m
-not_right-ring v n m h l all =
-    let r = fan v n m h in
-    let lt = r.1 in
-    let t = r.2 in
-    let a = t.first in
-    let b = t.second in
-    not_right-triangle l (v 0) (v (suc r.0)) (v (suc (suc r.0))) m t.left (omega (arith, linear)) t.third (omega (arith, linear))
-    (all 0 (omega arith)) (all (suc r.0) (omega arith)) (all (suc (suc r.0)) (omega arith))
 
 -- and left of each line that all vertices are left of
 pub left-ring : (v : ℕ → Pt) (n : ℕ) (m : Place) → IsInside v n m → (l : Line)

@@ -9,7 +9,6 @@ pub mod Formulas
 pub mod ThreeTerms
 pub mod Turns
 pub mod Offsets
-pub mod Rises
 -- the calls: places in lowest terms, and where lines meet
 pub mod Reducing
 pub mod LinesMeeting
@@ -21,7 +20,7 @@ pub mod Sums
 pub mod Shifts
 pub mod Moves
 pub mod Alongs
-pub mod Ratios
+mod Ratios
 pub mod Exits
 -- segments and directions
 pub mod OnEdges
@@ -44,5 +43,5 @@ pub mod Areas
 pub mod PointOrder
 pub mod Directions
 pub mod Ranks
-pub mod Turning
+mod Turning
 pub mod ConvexRings

@@ -70,14 +70,6 @@ past-y p q m =
     solve (point_env p (point_env q (place_env m []))) (past_e p' q' m' ⊗ q'.y ⊕ past_e q' p' m' ⊗ p'.y)
     (dot_e (minus_e q' p') (minus_e q' p') ⊗ m'.y ⊖ height_e (through_e p' q') m' ⊗ (q'.x ⊖ p'.x)) refl
 
--- how far along in x
-pub past-along : (p q : Pt) (m : Place)
-    → (q.x -ℤ p.x) *ℤ past p q m ≡ dot (minus q p) (minus q p) *ℤ (m.x -ℤ p.x *ℤ m.w) +ℤ (q.y -ℤ p.y) *ℤ height (through p q) m
-past-along p q m =
-    let p' = point_e 0 in let q' = point_e 2 in let m' = place_e 4 in
-    solve (point_env p (point_env q (place_env m []))) ((q'.x ⊖ p'.x) ⊗ past_e p' q' m')
-    (dot_e (minus_e q' p') (minus_e q' p') ⊗ (m'.x ⊖ p'.x ⊗ m'.w) ⊕ (q'.y ⊖ p'.y) ⊗ height_e (through_e p' q') m') refl
-
 -- any line's height from those of an end: across, along, and there
 pub height-past : (l : Line) (p q : Pt) (m : Place) → dot (minus q p) (minus q p) *ℤ height l m
     ≡ (l.b *ℤ (q.x -ℤ p.x) -ℤ l.a *ℤ (q.y -ℤ p.y)) *ℤ height (through p q) m +ℤ (l.a *ℤ (q.x -ℤ p.x) +ℤ l.b *ℤ (q.y -ℤ p.y)) *ℤ past p q m

@@ -5,13 +5,11 @@ use Rattle.std.proofs.lemmas.Bool.Decides.{nat_tests}
 use lib.IntN.{neg_ℤ}
 use Rattle.ff_whole.proofs.Signs.{linear}
 use Rattle.ff_whole.proofs.ClosedLists.{next-below}
-use Rattle.ff_whole.proofs.Turns.{turn-swap, height-back}
-use Rattle.ff_whole.proofs.ConvexBorders.{IsConvexRing, IsOnRing, on_ring}
+use Rattle.ff_whole.proofs.Turns.{turn-swap}
+use Rattle.ff_whole.proofs.ConvexBorders.{IsConvexRing}
 use Rattle.ff_whole.specs.Points.{turn}
 use Rattle.ff_whole.specs.Convex.{next}
-use Rattle.ff_whole.specs.Places.{through, height, past}
 use Rattle.ff_whole.specs.declared.points.Pt.{Pt}
-use Rattle.ff_whole.specs.declared.places.Place.{Place}
 
 -- the place of i in the list read backward
 abbrev pub back : ℕ → ℕ → ℕ
@@ -63,45 +61,3 @@ convex_from_clockwise n v r = record { left = left; wide = wide }
         let e = other_side i h (v o.0) in
         let f = o.2 in
         (back n o.0, back-below n o.0 o.1, subst (λ k. pos 0 <ℤ turn (v (back n i)) (v (back n (next n i))) (v k)) (sym (back-back n o.0 o.1)) (omega (arith, linear)))
-
--- a place that is left of no edge of a clockwise ring, and on the line of one, lies on one of its edges
-pub on_clockwise : (n : ℕ) (v : ℕ → Pt) → IsClockwise n v → (m : Place) → pos 0 <ℤ m.w
-    → ((i : ℕ) → i < n → height (through (v i) (v (next n i))) m ≤ℤ pos 0)
-    → (j : ℕ) → j < n → height (through (v j) (v (next n j))) m ≡ pos 0 → IsOnRing n v m
-on_clockwise n v r m w inner j h on =
-    found (on_ring n (backward n v) (convex_from_clockwise n v r) m w not_outside (back n (next n j)) (back-below n (next n j) (next-below n j h)) at)
-  where
-    height_other : (i : ℕ) → i < n
-        → height (through (v (back n i)) (v (back n (next n i)))) m ≡ neg_ℤ (height (through (v (back n (next n i))) (v (next n (back n (next n i))))) m)
-    height_other i h =
-        height-back (v (back n (next n i))) (v (back n i)) m
-        ∙ ap (λ k. neg_ℤ (height (through (v (back n (next n i))) (v k)) m)) (sym (next-back n i h))
-
-    not_outside : (i : ℕ) → i < n → pos 0 ≤ℤ height (through (v (back n i)) (v (back n (next n i)))) m
-    not_outside i h = let e = height_other i h in
-        let f = inner (back n (next n i)) (back-below n (next n i) (next-below n i h)) in omega (arith, linear)
-
-    -- the edge j, read backward, begins where it ends
-    there : back n (next n (back n (next n j))) ≡ j
-    there = ap (back n) (next-back n j h) ∙ back-back n j h
-
-    at : height (through (v (back n (back n (next n j)))) (v (back n (next n (back n (next n j)))))) m ≡ pos 0
-    at =
-        let e = height_other (back n (next n j)) (back-below n (next n j) (next-below n j h)) in
-        let f : height (through (v (back n (next n (back n (next n j))))) (v (next n (back n (next n (back n (next n j))))))) m ≡ pos 0 = subst (λ k. height (through (v k) (v (next n k))) m ≡ pos 0) (sym there) on in
-        omega (arith, linear)
-
-    found : IsOnRing n (backward n v) m → IsOnRing n v m
-    found s =
-        let k = s.0 in
-        let o = s.2 in
-        let e = height_other k s.1 in
-        let on = o.on in (
-          back n (next n k),
-          back-below n (next n k) (next-below n k s.1),
-          record {
-            on = omega (arith, linear);
-            after = subst (λ i. pos 0 ≤ℤ past (v (back n (next n k))) (v i) m) (sym (next-back n k s.1)) o.before;
-            before = subst (λ i. pos 0 ≤ℤ past (v i) (v (back n (next n k))) m) (sym (next-back n k s.1)) o.after;
-          },
-        )

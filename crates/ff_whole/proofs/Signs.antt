@@ -2,7 +2,7 @@
 -- To prove an inequality: `solve` gives an identity, each product's sign is a `let` from here, and the rest is linear,
 -- `omega (arith, linear)`, where each product is one unknown. To divide by a positive factor put a `.._from_mul` round it.
 -- `ints` in place of `linear` serves for numerals, casts and tests, and multiplies products out.
-use Rattle.std.proofs.Common.{◌≡◌, ◌≢◌, zero, suc, ◌⊎◌, inl, inr, arith, refl, sym, ap, ◌∙◌, ℤ, pos, negsuc, ◌+ℤ◌, ◌*ℤ◌, ◌<ℤ◌, ◌≤ℤ◌}
+use Rattle.std.proofs.Common.{◌≡◌, ◌≢◌, zero, suc, ◌⊎◌, inl, inr, arith, refl, ap, ◌∙◌, ℤ, pos, negsuc, ◌+ℤ◌, ◌*ℤ◌, ◌<ℤ◌, ◌≤ℤ◌}
 use lib.IntN.{◌-ℤ◌, neg_ℤ, *ℤ_comm, *ℤ-zero, zero-*ℤ}
 use Rattle.std.proofs.lemmas.Int.{ints}
 use borrow.Author.Differences.{up, down, same_out, same_in, Apart-out, lt_out, le_out, below_in, at_most_in, sum_is_lem, neg_is}
@@ -167,47 +167,7 @@ pub sign-neg : (a : ℤ) → a <ℤ pos 0 → int_signum a ≡ negsuc 0
 sign-neg (pos n) h = absurd (omega (arith, ints))
 sign-neg (negsuc n) h = refl
 
--- the sign of 0 is 0
-pub sign-zero : (a : ℤ) → a ≡ pos 0 → int_signum a ≡ pos 0
-sign-zero a h = ap int_signum h
-
--- a number with the sign 1 is positive
-pub pos_from_sign : (a : ℤ) → int_signum a ≡ pos 1 → pos 0 <ℤ a
-pos_from_sign (pos n) h = omega (arith, ints)
-pos_from_sign (negsuc n) h = absurd (omega (arith, ints))
-
--- a number with the sign -1 is negative
-pub neg_from_sign : (a : ℤ) → int_signum a ≡ negsuc 0 → a <ℤ pos 0
-neg_from_sign (pos n) h = absurd (omega (arith, ints))
-neg_from_sign (negsuc n) h = omega (arith, ints)
-
 -- a number with the sign 0 is 0
 pub zero_from_sign : (a : ℤ) → int_signum a ≡ pos 0 → a ≡ pos 0
 zero_from_sign (pos n) h = omega (arith, ints)
 zero_from_sign (negsuc n) h = absurd (omega (arith, ints))
-
--- the sign of the opposite is the opposite sign
-pub sign-opp : (a : ℤ) → int_signum (neg_ℤ a) ≡ neg_ℤ (int_signum a)
-sign-opp (pos zero) = refl
-sign-opp (pos (suc n)) = omega (arith, ints)
-sign-opp (negsuc n) = omega (arith, ints)
-
--- the sign of a product is the product of the signs
-pub sign-mul : (a b : ℤ) → int_signum (a *ℤ b) ≡ int_signum a *ℤ int_signum b
-sign-mul a b = by_sign a
-    (λ l. by_sign b
-    (λ m. sign-pos (a *ℤ b) (neg-mul_neg a b l m) ∙ sym (rw (sign-neg a l, sign-neg b m) refl))
-    (λ e. rw e (ap int_signum (*ℤ-zero a) ∙ sym (*ℤ-zero (int_signum a))))
-    (λ m. sign-neg (a *ℤ b) (neg-mul_pos a b l m) ∙ sym (rw (sign-neg a l, sign-pos b m) refl)))
-    (λ e. rw e (ap int_signum (zero-*ℤ b) ∙ sym (zero-*ℤ (int_signum b))))
-    (λ l. by_sign b
-    (λ m. sign-neg (a *ℤ b) (pos-mul_neg a b l m) ∙ sym (rw (sign-pos a l, sign-neg b m) refl))
-    (λ e. rw e (ap int_signum (*ℤ-zero a) ∙ sym (*ℤ-zero (int_signum a))))
-    (λ m. sign-pos (a *ℤ b) (pos-mul a b l m) ∙ sym (rw (sign-pos a l, sign-pos b m) refl)))
-
--- a positive factor changes no sign
-pub sign-scale : (k a : ℤ) → pos 0 <ℤ k → int_signum (k *ℤ a) ≡ int_signum a
-sign-scale k a h = by_sign a
-    (λ l. sign-neg (k *ℤ a) (pos-mul_neg k a h l) ∙ sym (sign-neg a l))
-    (λ e. rw e (rw *ℤ-zero refl))
-    (λ l. sign-pos (k *ℤ a) (pos-mul k a h l) ∙ sym (sign-pos a l))

@@ -60,16 +60,6 @@ pub lagrange-cross : (u a b : Pt) → dot u u *ℤ cross a b ≡ dot u a *ℤ cr
 lagrange-cross u a b = let u' = point_e 0 in let a' = point_e 2 in let b' = point_e 4 in
     solve (point_env u (point_env a (point_env b []))) (dot_e u' u' ⊗ cross_e a' b') (dot_e u' a' ⊗ cross_e u' b' ⊖ cross_e u' a' ⊗ dot_e u' b') refl
 
--- each of three directions is a sum of multiples of the other two
-pub three_x : (a b c : Pt) → cross b c *ℤ a.x +ℤ cross c a *ℤ b.x +ℤ cross a b *ℤ c.x ≡ pos 0
-three_x a b c = let a' = point_e 0 in let b' = point_e 2 in let c' = point_e 4 in
-    solve (point_env a (point_env b (point_env c []))) (cross_e b' c' ⊗ a'.x ⊕ cross_e c' a' ⊗ b'.x ⊕ cross_e a' b' ⊗ c'.x) (num (pos 0)) refl
-
--- the same in y
-pub three_y : (a b c : Pt) → cross b c *ℤ a.y +ℤ cross c a *ℤ b.y +ℤ cross a b *ℤ c.y ≡ pos 0
-three_y a b c = let a' = point_e 0 in let b' = point_e 2 in let c' = point_e 4 in
-    solve (point_env a (point_env b (point_env c []))) (cross_e b' c' ⊗ a'.y ⊕ cross_e c' a' ⊗ b'.y ⊕ cross_e a' b' ⊗ c'.y) (num (pos 0)) refl
-
 -- ---- four directions: Plücker
 
 -- the cross products of four directions, in pairs

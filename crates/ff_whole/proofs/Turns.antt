@@ -1,8 +1,8 @@
 -- The turn of three points in all orders and over a fourth, and heights over the line through two points.
-use Rattle.std.proofs.Common.{◌≡◌, refl, ◌+ℤ◌, []}
+use Rattle.std.proofs.Common.{◌≡◌, refl, []}
 use lib.IntN.{neg_ℤ}
 use Rattle.ff_whole.proofs.Formulas.{point_e, point_env, turn_e, place_e, place_env, place_of_e, through_e, height_e}
-use Rattle.ff_whole.proofs.Ring.{◌⊕◌, opp, solve}
+use Rattle.ff_whole.proofs.Ring.{opp, solve}
 use Rattle.ff_whole.specs.Points.{turn}
 use Rattle.ff_whole.specs.Places.{place_of, through, height}
 use Rattle.ff_whole.specs.declared.points.Pt.{Pt}
@@ -25,12 +25,6 @@ pub turn-swap : (p q r : Pt) → turn q p r ≡ neg_ℤ (turn p q r)
 turn-swap p q r =
     let p' = point_e 0 in let q' = point_e 2 in let r' = point_e 4 in
     solve (point_env p (point_env q (point_env r []))) (turn_e q' p' r') (opp (turn_e p' q' r')) refl
-
--- the turn of a triangle is that of the three triangles with a fourth point
-pub turn-split : (p q r s : Pt) → turn p q r ≡ turn p q s +ℤ turn q r s +ℤ turn r p s
-turn-split p q r s =
-    let p' = point_e 0 in let q' = point_e 2 in let r' = point_e 4 in let s' = point_e 6 in
-    solve (point_env p (point_env q (point_env r (point_env s [])))) (turn_e p' q' r') (turn_e p' q' s' ⊕ turn_e q' r' s' ⊕ turn_e r' p' s') refl
 
 -- over the line the other way the height has the other sign
 pub height-back : (p q : Pt) (m : Place) → height (through q p) m ≡ neg_ℤ (height (through p q) m)

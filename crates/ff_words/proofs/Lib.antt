@@ -1,7 +1,7 @@
-pub mod AppLemmas
-pub mod States
-pub mod Steps
-pub mod Forward
-pub mod Backward
-pub mod Final
-pub mod DigitLemmas
+mod AppLemmas
+mod States
+mod Steps
+mod Forward
+mod Backward
+mod Final
+mod DigitLemmas

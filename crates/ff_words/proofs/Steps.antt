@@ -132,10 +132,6 @@ pub plain_is : (F : Option Text) (waiting : Waiting) (w : Text) (ss : List Said)
 plain_is None waiting w ss p h = refl
 plain_is (Some flags) waiting w ss p h = ap (λ (m : Held × Outcome). after_flag rules waiting w m.0 m.1) (bundle_plain flags (length flags) ss p h)
 
-and-false : (b : Bool) → (b && false) ≡ false
-and-false true = refl
-and-false false = refl
-
 abbrev plain_step : Held × Step → Text → List Said → Pend → ℕ → Walk
 plain_step m w ss p n = after_step rules w (walk_at ss p n) m.0 m.1
 
