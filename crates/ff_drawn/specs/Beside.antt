@@ -1,4 +1,5 @@
 -- What tells at once that two segments don't cross.
+-- For the proofs of this crate alone.
 use Rattle.std.specs.Prelude.{◌⊎◌, ℤ, pos, ◌<ℤ◌}
 use Rattle.ff_whole.specs.declared.points.Pt.{Pt}
 use Rattle.ff_whole.specs.Points.{turn}

@@ -1,4 +1,5 @@
 -- How far edges and faces reach, from west to east and from south to north; elementary.
+-- For the proofs of this crate alone.
 use Rattle.std.specs.Prelude.{◌≡◌, ◌⊎◌, ℕ, ◌+◌, ◌*◌, ◌/◌, ◌<◌, ◌≤◌, ◌≤ℤ◌, List, length, slice_index_or, IsTrue}
 use Rattle.ff_whole.specs.declared.points.Pt.{Pt}
 use Rattle.ff_whole.specs.Points.{origin, IsNear}

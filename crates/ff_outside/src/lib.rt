@@ -10,4 +10,3 @@ pub use memory::{MemSink, MemSource};
 pub use standard::{StdSink, StdSource};
 pub use steady::{SteadySink, SteadySource};
 pub use streams::{Sink, SinkFailed, Source, SourceFailed};
-

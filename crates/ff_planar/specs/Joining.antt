@@ -1,4 +1,5 @@
 -- Faces that edges join to the first one.
+-- For the proofs of this crate alone.
 use Rattle.std.specs.Prelude.{◌≡◌, ℕ, suc, ◌<◌, ◌⊎◌, Bool, true, false, List, [], ◌∷◌, length, slice_index_or, Option, Some, None}
 use Rattle.ff_types.specs.declared.faces.EdgeSides.{EdgeSides}
 use Rattle.ff_types.specs.Sides.{sides_at}

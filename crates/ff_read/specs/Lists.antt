@@ -1,4 +1,5 @@
 -- What a FOLD object has under its keys, as the code has it.
+-- For the proofs of this crate alone.
 use Rattle.std.specs.Prelude.{List, Option, map, option_map}
 use Rattle.std.specs.Borrow.{Bor}
 use Rattle.serde_json.specs.Data.{Data}

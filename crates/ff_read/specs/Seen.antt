@@ -1,4 +1,5 @@
 -- Edges of which each is new: a set of numbers, one for the two vertices that an edge joins.
+-- For the proofs of this crate alone.
 use Rattle.std.specs.Prelude.{ℕ, ◌≡◌, ◌<◌, ◌^◌, ◌*◌, ◌+◌, min, max, List, [], ◌∷◌, ◌++◌, length, Bool, true, false}
 use Rattle.std.specs.BTreeSet.{contains, BTreeSet}
 use Rattle.std.specs.Ordering.{nat_cmp}

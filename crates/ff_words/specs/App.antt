@@ -1,4 +1,5 @@
 -- What `clap` reads of the command.
+-- For the proofs of this crate alone.
 use Rattle.std.specs.Prelude.{true, List, [], ◌∷◌, Option, Some, None, codes, option_map}
 use Rattle.std.specs.Borrow.{Bor}
 use Rattle.clap.specs.Walk.{Rule}
