@@ -21,7 +21,6 @@ pub record IsPartTo (P : Extent → Type 0) (list : List Extent) (n : ℕ) (part
   pub all : (k : ℕ) → k < n → P (extent_at list k) → Contains part (extent_at list k)
 
 module _ (P : Extent → Type 0) (list : List Extent) where
-
   pub part_skips : (n : ℕ) (part : List Extent) → IsPartTo P list n part → (P (extent_at list n) → ⊥) → IsPartTo P list (n + 1) part
   part_skips n part h not = record {
     only = h.only;

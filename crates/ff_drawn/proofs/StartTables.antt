@@ -1,9 +1,7 @@
 -- Where the darts that leave a vertex begin, one vertex after the other, and halving among them.
-use Rattle.std.proofs.Common.{◌≡◌, ◌⊎◌, inl, inr, ℕ, ◌+◌, ◌<◌, ◌≤◌, List, [], ◌∷◌, ◌++◌, length, slice_index, arith, sym, ◌∙◌, subst}
-use Rattle.std.proofs.lemmas.List.{get_or_append_left, get_or_push}
+use Rattle.std.proofs.Common.{◌≡◌, ◌⊎◌, inl, inr, ℕ, ◌+◌, ◌<◌, ◌≤◌, List, length, arith, sym, subst}
 use Rattle.ff_drawn.specs.declared.darts.Dart.{Dart}
 use Rattle.ff_drawn.specs.Darts.{dart_at, ComesBefore, AreInOrder, IsStart, ArePassed}
-use Rattle.ff_drawn.proofs.Starts.{before_trans}
 
 last_or : (k n : ℕ) → k < n + 1 → (k < n) ⊎ (k ≡ n)
 last_or k n l = grind arith
@@ -63,5 +61,3 @@ between darts q low high a b = record {
   before = λ k l. inl (before_first (dart_at darts k) q.tail (a.before k l));
   after = λ k l m h. b.after k l m (elim h [ inl x ↦ inl (omega (arith, x)) | inr x ↦ let e = x.0 in inl (omega (arith, e)) ]);
 }
-
-module _ (darts : List Dart) (q : Dart) (low high middle : ℕ) (o : AreInOrder darts) (b : IsBetween darts q low high) (l : low ≤ middle) (m : middle < high) where

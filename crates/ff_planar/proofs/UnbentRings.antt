@@ -1,6 +1,5 @@
 -- A ring of different vertices whose points are those of a convex ring is nowhere bent.
-use Rattle.std.proofs.Common.{◌≡◌, inl, inr, ℕ, ◌+◌, ◌<◌, Bool, true, false, List, length, arith, sym, ap, ◌∙◌, subst, pos, ◌≤ℤ◌}
-use Rattle.std.proofs.lemmas.Bool.{false≢true, cases_lt}
+use Rattle.std.proofs.Common.{inl, inr, ℕ, ◌<◌, List, length, arith, sym, ◌∙◌, subst, pos, ◌≤ℤ◌}
 use Rattle.std.specs.List.{All}
 use Rattle.std.proofs.lemmas.List.{get_or_default}
 use Rattle.ff_whole.proofs.Signs.{linear}
@@ -10,7 +9,6 @@ use Rattle.ff_whole.specs.Convex.{left_of, AreApart, IsConvex}
 use Rattle.ff_types.specs.Rings.{corner, corners}
 use Rattle.ff_types.proofs.SubRings.{corner_point}
 use Rattle.ff_planar.specs.Reflex.{IsUnbent, AreDifferent}
-use Rattle.ff_planar.specs.Joining.{reached_at}
 use Rattle.ff_planar.proofs.RingTests.{corners_length, left_is}
 
 module _ (points : List Pt) (ring : List ℕ) where
