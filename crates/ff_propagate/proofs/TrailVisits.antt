@@ -1,6 +1,6 @@
 -- The constraints of one variable are visited.
-use Rattle.std.proofs.Common.{List, get_or, ◌≡◌, ℕ, ◌+◌, ◌<◌, ◌≤◌, ◌⊎◌, length, slice_get, slice_index, Option, Some, sym, ap, ◌∙◌, inl, inr, arith}
-use Rattle.std.proofs.lemmas.Option.{slice_get-get_or}
+use Rattle.std.proofs.Common.{List, get_or, ◌≡◌, ℕ, ◌+◌, ◌<◌, ◌≤◌, ◌⊎◌, length, slice_get, slice_index, Option, Some, sym, ap, ◌∙◌, subst, inl, inr, arith}
+use Rattle.std.proofs.lemmas.Option.{slice_get_within, slice_get-get_or}
 use Rattle.std.proofs.lemmas.Bool.{cases_eq}
 use Rattle.ff_tables.specs.declared.orders.Order.{Order}
 use Rattle.ff_tables.specs.declared.terms.Constraint.{Constraint}
@@ -10,7 +10,7 @@ use Rattle.ff_propagate.specs.Uses.{IsUse, IsFrom, IsIn}
 use Rattle.ff_tables.proofs.Agreeing.{forces_more}
 use Rattle.ff_propagate.specs.declared.trail.Step.{Step}
 use Rattle.ff_propagate.specs.declared.trail.Trail.{Trail}
-use Rattle.ff_propagate.specs.Trails.{known, step_at, Grows, IsSilent, Rests, AreReady}
+use Rattle.ff_propagate.specs.Trails.{known, step_at, Grows, IsSilent, Rests, AreReadyBelow, AreReady}
 use Rattle.ff_propagate.proofs.Lists.{scan}
 
 -- where the values of its terms are the same, a constraint stays silent
@@ -91,3 +91,23 @@ pub con_read : (cons cs : List Constraint) (k : ℕ) (con : Constraint) → cs �
     → con ≡ get_or cs k con → slice_get cons k ≡ Some con
 con_read cons cs k con same l is = slice_get-get_or cons k con l
     ∙ ap (λ d. Some d) (sym (is ∙ ap (λ ds. get_or ds k con) same))
+
+-- a constraint that waits for a later step waits for an earlier one
+lower : (t : Trail) (head first : ℕ) (con : Constraint) → first ≤ head → Rests t head con → Rests t first con
+lower t head first con h (inl (i, j, a, b, l, e)) = inl (i, j, omega (arith, a, h), b, l, e)
+lower t head first con h (inr q) = inr q
+
+-- one constraint more is examined
+pub passes_on : (cons : List Constraint) (old new : Trail) (head n : ℕ) (con : Constraint) → Grows cons old new
+    → head ≤ length old.steps.items → slice_get cons n ≡ Some con → Rests new (length old.steps.items) con
+    → AreReadyBelow cons old head n → AreReadyBelow cons new head (n + 1)
+passes_on cons old new head n con x h there rests ready c d l at = elim (cases_eq c n) [
+  | inl e ↦ lower new (length old.steps.items) head d h
+      (subst (λ (z : Constraint). Rests new (length old.steps.items) z)
+      (same_con there (ap (slice_get cons) (sym e) ∙ at)) rests)
+  | inr ne ↦ keeps cons old new head d x h (ready c d (omega (arith, l, ne)) at)
+]
+
+pub passed : (cons : List Constraint) (t : Trail) (head n : ℕ) → length cons ≤ n → AreReadyBelow cons t head n
+    → AreReady cons t head
+passed cons t head n l ready c con at = ready c con (omega (arith, l, slice_get_within cons c con at)) at

@@ -95,6 +95,10 @@ IsSilent f con = (v : ℕ) (s : Order) → Forces con.kind con.terms (Knows f) v
 abbrev pub Rests : Trail → ℕ → Constraint → Type 0
 Rests t head con = Waits t head con.terms ⊎ IsSilent (known t) con
 
+-- each of the first n constraints waits or is silent
+abbrev pub AreReadyBelow : List Constraint → Trail → ℕ → ℕ → Type 0
+AreReadyBelow cons t head n = (c : ℕ) (con : Constraint) → c < n → slice_get cons c ≡ Some con → Rests t head con
+
 -- each constraint waits or is silent
 abbrev pub AreReady : List Constraint → Trail → ℕ → Type 0
 AreReady cons t head = (c : ℕ) (con : Constraint) → slice_get cons c ≡ Some con → Rests t head con

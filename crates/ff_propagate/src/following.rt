@@ -31,6 +31,23 @@ impl Trail {
         None
     }
 
+    // Examines each constraint once. One that is dead.
+    fn pass(&mut self, system: &System) -> Option<u32>
+        requires trail { IsTrail system.now.vars self.old }
+        requires few { length system.now.constraints < 2 ^ 32 }
+        ensures trail { IsTrail system.now.vars self.new }
+        ensures grows { Grows system.now.constraints self.old self.new }
+        ensures ends { Ends system.now.constraints (length self.old.steps.items) self.new result }
+    {
+        let constraints = system.constraints.as_slice();
+        for number in 0..constraints.len() as u32 {
+            if self.examine(system, &constraints[number as usize], number) {
+                return Some(number);
+            }
+        }
+        None
+    }
+
     /// Sets all that constraints force, from the head-th step on, where each constraint that has no variable of these steps has all
     /// that it forces. The number of a constraint that is dead, where there is one; some values may then be left out.
     ///
@@ -54,5 +71,22 @@ impl Trail {
             }
         }
         None
+    }
+
+    /// Sets all that constraints force from what is known, whatever was examined before. The number of a constraint that is dead,
+    /// where there is one.
+    pub fn settle(&mut self, system: &System, uses: &Uses) -> Option<u32>
+        requires trail { IsTrail system.now.vars self.old }
+        requires few { length system.now.constraints < 2 ^ 32 }
+        requires uses { AreUses system.now.vars system.now.constraints uses.now }
+        ensures trail { IsTrail system.now.vars self.new }
+        ensures grows { Grows system.now.constraints self.old self.new }
+        ensures ends { Ends system.now.constraints (length self.new.steps.items) self.new result }
+    {
+        let head = self.steps.len();
+        match self.pass(system) {
+            Some(number) => Some(number),
+            None => self.close(system, uses, head),
+        }
     }
 }
