@@ -13,3 +13,4 @@ pub mod Stands
 pub mod Ends
 pub mod Giving
 pub mod Boards
+pub mod Trails

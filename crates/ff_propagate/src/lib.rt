@@ -4,11 +4,13 @@
 mod closing;
 mod draining;
 mod facts;
+mod following;
 mod giving;
 mod laws;
 mod levels;
 mod parts;
 mod passing;
+mod trail;
 mod uses;
 mod work;
 
@@ -19,4 +21,5 @@ pub use laws::{
     further_facts_keep_the_rule, quiet_facts_are_the_closure,
 };
 pub use parts::Part;
+pub use trail::{Step, Trail};
 pub use uses::Uses;
