@@ -71,9 +71,11 @@ same_more part tried own_tried same v p s l is = record {
     | inr before ↦ let q = same.to u t before in (q.0, q.1, q.2, tried_before p s own_tried q.0 t q.3)
   ];
   back = λ q t among. elim (tried_or_now p s own_tried q t among) [
-    | inl now ↦ (subst (λ k. k < length part) (sym now.0) l,
-        subst (λ u. Contains ((v, s) ∷ tried) (u, t)) (sym is ∙ ap (slice_index part) (sym now.0))
-        (subst (λ b. Contains ((v, s) ∷ tried) (v, b)) (sym now.1) (tried_now v s tried)))
+    | inl now ↦ (
+      subst (λ k. k < length part) (sym now.0) l,
+      subst (λ u. Contains ((v, s) ∷ tried) (u, t)) (sym is ∙ ap (slice_index part) (sym now.0))
+          (subst (λ b. Contains ((v, s) ∷ tried) (v, b)) (sym now.1) (tried_now v s tried)),
+    )
     | inr before ↦ let k = same.back q t before in (k.0, tried_before v s tried (slice_index part q) t k.1)
   ];
 }
@@ -152,9 +154,13 @@ module _ (vars : ℕ) (cons own : List Constraint) (fit : AreFit vars cons) (val
       forced_touching c from at i li st u t (p, lp, e, only) =
           let copy = are_own.all c from at i li (stands_contains part (term_at from.terms i).var st) in
           let like = like_copy part names from copy.con copy.copied in
-          let now : h (term_at copy.con.terms p).var ≡ Some t = silent copy.number copy.con copy.there (term_at copy.con.terms p).var t
-          (p, omega (arith, lp, copy.copied.as_many), refl, only_like from copy.con like (Knows (mixed h)) (Knows h)
-          (λ j b l k. known_own from copy.con copy.copied j b l k) p t lp only) in
+          let now : h (term_at copy.con.terms p).var ≡ Some t = silent copy.number copy.con copy.there (term_at copy.con.terms p).var t (
+            p,
+            omega (arith, lp, copy.copied.as_many),
+            refl,
+            only_like from copy.con like (Knows (mixed h)) (Knows h)
+                (λ j b l k. known_own from copy.con copy.copied j b l k) p t lp only,
+          ) in
           subst (λ w. mixed h w ≡ Some t) e (elim (stands_or_not part (term_at from.terms p).var) [
             | inl s ↦ inner from copy.con copy.copied p lp s ∙ now
             | inr out ↦ elim (some_or_none (value (term_at from.terms p).var)) [
@@ -207,11 +213,15 @@ module _ (vars : ℕ) (cons own : List Constraint) (fit : AreFit vars cons) (val
       own_forced : (c : ℕ) (con : Constraint) → slice_get own c ≡ Some con → (u : ℕ) (t : Order)
           → Forces con.kind con.terms (Knows named) u t → named u ≡ Some t
       own_forced c con at u t (p, lp, e, only) =
-          let copy = are_own.each c con at in
+          let copy = (are_own.each c con at).1 in
           let lf : p < length copy.from.terms = omega (arith, lp, copy.copied.as_many) in
-          let now : g (term_at copy.from.terms p).var ≡ Some t = silent copy.number copy.from copy.there (term_at copy.from.terms p).var t
-          (p, lf, refl, only_like con copy.from (like_from part names copy.from con copy.copied) (Knows named) (Knows g)
-          (λ j b l k. ap g (sym (copy.copied.each j (omega (arith, l, copy.copied.as_many))).name) ∙ k) p t lp only) in
+          let now : g (term_at copy.from.terms p).var ≡ Some t = silent (are_own.each c con at).0 copy.from copy.there (term_at copy.from.terms p).var t (
+            p,
+            lf,
+            refl,
+            only_like con copy.from (like_from part names copy.from con copy.copied) (Knows named) (Knows g)
+                (λ j b l k. ap g (sym (copy.copied.each j (omega (arith, l, copy.copied.as_many))).name) ∙ k) p t lp only,
+          ) in
           subst (λ w. named w ≡ Some t) e (ap g (copy.copied.each p lf).name ∙ now)
 
       -- what the own node has of any variable
@@ -230,3 +240,21 @@ module _ (vars : ℕ) (cons own : List Constraint) (fit : AreFit vars cons) (val
       pub node_from : (p : ℕ) (s : Order) → p < length part → AtNode own (Knows own_value) own_tried p s
           → AtNode cons (Knows value) tried (slice_index part p) s
       node_from p s l inside = node.inside (slice_index part p) s (ap g (sym (are_own.are_names.front p l)) ∙ own_is p s inside)
+
+  -- at the root own constraints force no more
+  pub own_quiet : (f : ℕ → Option Order) → ((v : ℕ) → f v ≡ own_value v) → (c : ℕ) (con : Constraint) → slice_get own c ≡ Some con
+      → (u : ℕ) (t : Order) → Forces con.kind con.terms (Knows f) u t → f u ≡ Some t
+  own_quiet f same c con at u t (p, lp, e, only) =
+      let copy = (are_own.each c con at).1 in
+      let here : (j : ℕ) → j < length copy.from.terms → f (term_at con.terms j).var ≡ value (term_at copy.from.terms j).var = λ j l.
+      same (term_at con.terms j).var ∙ are_own.are_names.values (term_at con.terms j).var (copy.copied.each j l).within
+      ∙ ap value (copy.copied.each j l).name in
+      let lf : p < length copy.from.terms = omega (arith, lp, copy.copied.as_many) in
+      let now : value (term_at copy.from.terms p).var ≡ Some t = quiet (are_own.each c con at).0 copy.from (term_at copy.from.terms p).var t copy.there (
+        p,
+        lf,
+        refl,
+        only_like con copy.from (like_from part names copy.from con copy.copied) (Knows f) (Knows value)
+            (λ j b l k. sym (here j (omega (arith, l, copy.copied.as_many))) ∙ k) p t lp only,
+      ) in
+      subst (λ w. f w ≡ Some t) e (here p lf ∙ now)

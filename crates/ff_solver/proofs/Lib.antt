@@ -11,6 +11,7 @@ pub mod Running
 pub mod Existing
 pub mod Unique
 pub mod Touching
+pub mod Copies
 pub mod Copied
 pub mod OwnTrees
 pub mod Advancing

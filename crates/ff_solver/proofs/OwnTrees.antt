@@ -1,12 +1,12 @@
 -- The decision tree of a part is the one of its own system.
-use Rattle.std.proofs.Common.{◌≡◌, ℕ, ◌<◌, ◌⊎◌, inl, inr, List, [], ◌∷◌, length, slice_index, slice_index_or, refl, sym, ap, ◌∙◌, subst, arith, Option, Some, None}
+use Rattle.std.proofs.Common.{◌≡◌, ℕ, ◌<◌, ◌⊎◌, inl, inr, List, [], ◌∷◌, length, slice_index, slice_index_or, refl, sym, ◌∙◌, subst, arith, Option, Some, None}
 use Rattle.ff_tables.specs.declared.orders.Order.{Order}
 use Rattle.ff_tables.specs.declared.orders.Order.TheVariants.{Below, Above}
 use Rattle.ff_tables.specs.declared.terms.Constraint.{Constraint}
 use Rattle.ff_tables.specs.Systems.{AreFit}
 use Rattle.ff_tables.specs.Forces.{Knows}
 use Rattle.ff_propagate.specs.Parts.{IsPart}
-use Rattle.ff_propagate.specs.Trees.{Tree, Clash, Full, Fork, AtNode, IsTreeAt, IsTree, IsClashNode, HasValues, IsBranching}
+use Rattle.ff_propagate.specs.Trees.{Tree, Clash, Full, Fork, AtNode, IsTreeAt, IsTree, IsClashNode, IsBranching}
 use Rattle.ff_propagate.proofs.Quiet.{IsQuiet}
 use Rattle.ff_solver.specs.Paths.{IsAtNode}
 use Rattle.ff_solver.specs.Copies.{AreOwn, AreOwnNumbers}
@@ -71,9 +71,11 @@ module _ (vars own_vars : ℕ) (cons own : List Constraint) (fit : AreFit vars c
   forked tried own_tried same a b v free br (inr k) (inl y) =
       absurd (no_own_clash vars cons own fit value own_value part names quiet is_part are_own tried own_tried same k.values k.node k.silent y)
   forked tried own_tried same a b v free br (inr k) (inr h) =
-      let never : (s : Order) → AtNode own (Knows own_value) own_tried br.place s → ⊥ = λ s d. br.undecided
-      (s, subst (λ u. AtNode cons (Knows value) tried u s) br.is
-      (node_from vars cons own fit value own_value part names quiet is_part are_own tried own_tried same k.values k.node k.silent br.place s br.inside d)) in
+      let never : (s : Order) → AtNode own (Knows own_value) own_tried br.place s → ⊥ = λ s d. br.undecided (
+        s,
+        subst (λ u. AtNode cons (Knows value) tried u s) br.is
+            (node_from vars cons own fit value own_value part names quiet is_part are_own tried own_tried same k.values k.node k.silent br.place s br.inside d),
+      ) in
       record {
         inside = br.inside;
         is = br.is;
@@ -85,9 +87,11 @@ module _ (vars own_vars : ℕ) (cons own : List Constraint) (fit : AreFit vars c
           undecided = λ d. never d.0 d.1;
           earlier = λ j l.
               let m : j < length part = omega (arith, l, br.inside) in
-              let d = br.earlier j l in
-              (d.0, subst (λ u. AtNode own (Knows own_value) own_tried u d.0) (sym (are_numbers.1 j m))
-              (node_over vars cons own fit value own_value part names quiet is_part are_own tried own_tried same h.values h.node h.silent j d.0 m d.1));
+              let d = br.earlier j l in (
+                d.0,
+                subst (λ u. AtNode own (Knows own_value) own_tried u d.0) (sym (are_numbers.1 j m))
+                    (node_over vars cons own fit value own_value part names quiet is_part are_own tried own_tried same h.values h.node h.silent j d.0 m d.1),
+              );
         };
         values = k.values;
         own_values = h.values;

@@ -1,5 +1,5 @@
 -- Whether a variable is of a part, and whether a constraint touches it.
-use Rattle.std.proofs.Common.{◌≡◌, ℕ, zero, suc, ◌<◌, ◌⊎◌, inl, inr, List, [], ◌∷◌, length, slice_index, subst, arith}
+use Rattle.std.proofs.Common.{◌≡◌, ℕ, zero, suc, ◌<◌, ◌⊎◌, inl, inr, List, [], ◌∷◌, subst, arith}
 use Rattle.std.proofs.lemmas.Bool.{cases_eq}
 use Rattle.ff_tables.specs.declared.terms.Term.{Term}
 use Rattle.ff_tables.specs.Orders.{term_at}
