@@ -4,7 +4,7 @@ use Rattle.std.proofs.lemmas.Option.{slice_get_within}
 use Rattle.ff_tables.specs.declared.orders.Order.{Order}
 use Rattle.ff_tables.specs.declared.terms.Constraint.{Constraint}
 use Rattle.ff_propagate.specs.declared.parts.Part.{Part}
-use Rattle.ff_propagate.specs.Parts.{IsUndecided, AreLinked, IsLinkChain, AreConnected, IsPart, AreParts}
+use Rattle.ff_propagate.specs.Parts.{IsUndecided, AreLinked, IsLinkChain, AreConnected, IsPart, AreParts, Touches, AreTouching}
 use Rattle.ff_propagate.proofs.Joining.{Stands}
 use Rattle.ff_propagate.proofs.Quiet.{contains_stands}
 use Rattle.ff_parts.specs.Lists.{vars_of}
@@ -80,16 +80,22 @@ module _ (vars : ℕ) (cons : List Constraint) (value : ℕ → Option Order) wh
 
   -- ---- the classes, one for each first
 
+  -- the constraint with this number has a variable of the part
+  abbrev IsTouched : List ℕ → ℕ → Type 0
+  IsTouched part c = (con : Constraint) × (slice_get cons c ≡ Some con) × Touches part con
+
   abbrev AreClasses : List ℕ → List Part → Type 0
   AreClasses [] [] = Unit {0}
-  AreClasses (f ∷ firsts) (p ∷ parts) = AreFrom (InClass f) 0 vars p.vars × AreClasses firsts parts
+  AreClasses (f ∷ firsts) (p ∷ parts) = AreFrom (InClass f) 0 vars p.vars
+      × AreFrom (IsTouched p.vars) 0 (length cons) p.touching × AreClasses firsts parts
   AreClasses [] (p ∷ parts) = ⊥
   AreClasses (f ∷ firsts) [] = ⊥
 
   some_classes : (firsts : List ℕ) → ((parts : List Part) → AreClasses firsts parts → ⊥) → ⊥
   some_classes [] k = k [] tt
   some_classes (f ∷ firsts) k = some_classes firsts (λ parts are. some_from (InClass f) vars 0 vars (omega arith)
-      (λ list of. k (record { vars = list } ∷ parts) (of, are)))
+      (λ list of. some_from (IsTouched list) (length cons) 0 (length cons) (omega arith)
+      (λ touching touched. k (record { vars = list; touching = touching } ∷ parts) (of, touched, are))))
 
   -- the class at a place
   class_at : (firsts : List ℕ) (parts : List Part) → AreClasses firsts parts → (k : ℕ) (part : List ℕ)
@@ -101,14 +107,30 @@ module _ (vars : ℕ) (cons : List Constraint) (value : ℕ → Option Order) wh
   class_at (f ∷ firsts) (p ∷ parts) are zero part e = (omega arith, subst (AreFrom (InClass f) 0 vars) (the_same e) are.0) where
     the_same : Some p.vars ≡ Some part → p.vars ≡ part
     the_same x = cc
-  class_at (f ∷ firsts) (p ∷ parts) are (suc k) part e = let r = class_at firsts parts are.1 k part e in (omega (arith, r.0), r.1)
+  class_at (f ∷ firsts) (p ∷ parts) are (suc k) part e = let r = class_at firsts parts are.2 k part e in (omega (arith, r.0), r.1)
+
+  -- the constraints of each class
+  touching_at : (firsts : List ℕ) (parts : List Part) → AreClasses firsts parts → (k : ℕ) (part : Part)
+      → slice_get parts k ≡ Some part → AreTouching cons part.vars part.touching
+  touching_at [] [] are k part e = absurd (omega (arith, slice_get_within [] k part e))
+  touching_at [] (p ∷ parts) are k part e = absurd are
+  touching_at (f ∷ firsts) [] are k part e = absurd are
+  touching_at (f ∷ firsts) (p ∷ parts) are zero part e = subst (λ (q : Part). AreTouching cons q.vars q.touching) (the_same e)
+      (record {
+        each = are.1.each;
+        all = λ c con at t. are.1.all c (con, at, t) (omega arith) (slice_get_within cons c con at);
+        rising = are.1.rising;
+      }) where
+        the_same : Some p ≡ Some part → p ≡ part
+        the_same x = cc
+  touching_at (f ∷ firsts) (p ∷ parts) are (suc k) part e = touching_at firsts parts are.2 k part e
 
   class_of : (firsts : List ℕ) (parts : List Part) → AreClasses firsts parts → (k : ℕ) → k < length firsts
       → (part : List ℕ) × (slice_get (vars_of parts) k ≡ Some part)
   class_of [] parts are k l = absurd (omega (arith, l))
   class_of (f ∷ firsts) [] are k l = absurd are
   class_of (f ∷ firsts) (p ∷ parts) are zero l = (p.vars, refl)
-  class_of (f ∷ firsts) (p ∷ parts) are (suc k) l = class_of firsts parts are.1 k (omega (arith, l))
+  class_of (f ∷ firsts) (p ∷ parts) are (suc k) l = class_of firsts parts are.2 k (omega (arith, l))
 
   module _ (firsts : List ℕ) (are_firsts : AreFrom IsFirst 0 vars firsts) (parts : List Part) (are : AreClasses firsts parts)
       (lead : (v : ℕ) → v < vars → HasFirst v) where
@@ -168,6 +190,7 @@ module _ (vars : ℕ) (cons : List Constraint) (value : ℕ → Option Order) wh
               let d = class_at firsts parts are k p.0 p.1 in
               (k, p.0, p.1, d.1.all v (o, subst (λ u. Connected u v) (sym e) c) (omega arith) o.variable)
 
-  pub some_parts : ((parts : List Part) → AreParts vars cons value (vars_of parts) → ⊥) → ⊥
+  pub some_parts : ((parts : List Part) → AreParts vars cons value (vars_of parts)
+      → ((k : ℕ) (part : Part) → slice_get parts k ≡ Some part → AreTouching cons part.vars part.touching) → ⊥) → ⊥
   some_parts k = each_below vars HasFirst (λ v l. has_first v) (λ lead. some_from IsFirst vars 0 vars (omega arith)
-      (λ firsts are_firsts. some_classes firsts (λ parts are. k parts (are_parts firsts are_firsts parts are lead))))
+      (λ firsts are_firsts. some_classes firsts (λ parts are. k parts (are_parts firsts are_firsts parts are lead) (touching_at firsts parts are))))

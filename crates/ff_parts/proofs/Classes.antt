@@ -1,6 +1,6 @@
 -- The variables of one label are a part.
 use Rattle.std.proofs.Common.{◌≡◌, ℕ, zero, suc, ◌<◌, ◌≤◌, List, [], ◌∷◌, length, slice_index, slice_get, refl, sym, ap, ◌∙◌, subst, arith, Option, Some, Contains}
-use Rattle.std.proofs.lemmas.Option.{slice_get_within, slice_get-get_or, get_or_from_slice_get}
+use Rattle.std.proofs.lemmas.Option.{slice_get-get_or}
 use Rattle.ff_tables.specs.declared.orders.Order.{Order}
 use Rattle.ff_tables.specs.declared.terms.Constraint.{Constraint}
 use Rattle.ff_propagate.specs.Parts.{IsUndecided, AreLinked, IsLinkChain, AreConnected, IsPart, AreParts}
@@ -10,9 +10,9 @@ use Rattle.ff_parts.specs.declared.labels.Labels.{Labels}
 use Rattle.ff_parts.specs.Labels.{label, IsLabelling, AreAlike, IsBelow}
 use Rattle.ff_propagate.specs.declared.parts.Part.{Part}
 use Rattle.ff_parts.specs.Gathers.{members, Gathers}
-use Rattle.ff_parts.specs.Lists.{vars_of}
+use Rattle.ff_parts.specs.Lists.{vars_of, touching_of}
 use Rattle.ff_parts.proofs.Reaching.{link_on}
-use Rattle.ff_parts.proofs.Gathered.{member_within, member_stands, members_rise}
+use Rattle.ff_parts.proofs.Gathered.{member_within, member_stands, members_rise, listed, gathered}
 
 link_back : (vars : ℕ) (cons : List Constraint) (value : ℕ → Option Order) (v w : ℕ)
     → AreLinked vars cons value v w → AreLinked vars cons value w v
@@ -104,9 +104,7 @@ module _ (vars : ℕ) (cons : List Constraint) (value : ℕ → Option Order) (l
 
     list_is : (k : ℕ) (part : List ℕ) → slice_get lists k ≡ Some part
         → (k < length l.firsts.items) × (part ≡ of_label k)
-    list_is k part at =
-        let m : k < length l.firsts.items = omega (arith, slice_get_within lists k part at, g.as_many) in
-        (m, sym (get_or_from_slice_get lists k part [] at) ∙ g.each k m)
+    list_is k part at = listed l.part_of.items vars (length l.firsts.items) lists g k part at
 
     -- the first of a list is the first of its part
     starts_with : (k : ℕ) → k < length l.firsts.items
@@ -168,9 +166,7 @@ pub found_parts : (vars : ℕ) (cons : List Constraint) (value : ℕ → Option 
     → labels ≡ l.part_of.items → many ≡ length l.firsts.items
     → Gathers labels (length labels) many lists → AreParts vars cons value lists
 found_parts vars cons value l lists labels many is slice count g = are_parts vars cons value l lists is
-    (subst (λ n. Gathers l.part_of.items n (length l.firsts.items) lists) is.labelling.wide
-    (subst (λ m. Gathers l.part_of.items (length l.part_of.items) m lists) count
-    (subst (λ xs. Gathers xs (length xs) many lists) slice g)))
+    (gathered vars l.part_of.items labels lists many (length l.firsts.items) is.labelling.wide slice count g)
 
 pub part_at : (parts : List Part) (k : ℕ) (part : Part) → slice_get parts k ≡ Some part
     → slice_get (vars_of parts) k ≡ Some part.vars
@@ -180,3 +176,12 @@ part_at (p ∷ parts) zero part e = same p part e
     same : (a b : Part) → Some a ≡ Some b → Some a.vars ≡ Some b.vars
     same a b e = cc
 part_at (p ∷ parts) (suc k) part e = part_at parts k part e
+
+pub touching_at : (parts : List Part) (k : ℕ) (part : Part) → slice_get parts k ≡ Some part
+    → slice_get (touching_of parts) k ≡ Some part.touching
+touching_at [] k part e = cc
+touching_at (p ∷ parts) zero part e = same p part e
+  where
+    same : (a b : Part) → Some a ≡ Some b → Some a.touching ≡ Some b.touching
+    same a b e = cc
+touching_at (p ∷ parts) (suc k) part e = touching_at parts k part e

@@ -8,34 +8,19 @@ use Rattle.ff_tables.specs.declared.orders.Order.{Order}
 use Rattle.ff_tables.specs.declared.orders.Order.TheVariants.{Below, Above}
 use Rattle.ff_tables.specs.declared.terms.Constraint.{Constraint}
 use Rattle.ff_tables.specs.declared.givens.Given.{Given}
-use Rattle.ff_tables.specs.Orders.{term_at, turn, is_order, row_at}
+use Rattle.ff_tables.specs.Orders.{term_at, turn, row_at}
 use Rattle.ff_tables.specs.Rows.{all_lists}
 use Rattle.ff_tables.specs.Systems.{AreFit}
 use Rattle.ff_tables.specs.Forces.{Meets, Knows}
-use Rattle.ff_tables.proofs.Agreeing.{turn_turn}
 use Rattle.ff_propagate.specs.Closure.{InClosure, IsClosure, Gives, HoldsGivens, Clashes}
 use Rattle.ff_propagate.specs.Parts.{IsUndecided, AreConnected, IsPart, AreParts}
 use Rattle.ff_propagate.specs.Solutions.{has_row, joint, is_solution, solutions_of}
 use Rattle.ff_propagate.specs.Choices.{IsChoice, value_of, IsAssignmentOf}
 use Rattle.ff_propagate.proofs.Deciding.{has_row-decides, row_or_none}
+use Rattle.ff_propagate.proofs.Exact.{holds_closure}
 use Rattle.ff_propagate.proofs.Joining.{Stands, AreDistinct, joint_out, joint_at, joint_either, joint_keeps}
 use Rattle.ff_propagate.proofs.Quiet.{IsQuiet, closure_quiet, dead_forces, in_part, all_at, all_from, stands_contains, contains_stands}
 use Rattle.ff_parts.specs.Factors.{IsAllowed, Factors, FactorsFor}
-
-turn_one : (b : Bool) (s t : Order) → turn b s ≡ turn b t → s ≡ t
-turn_one b s t e = sym (turn_turn b s) ∙ ap (turn b) e ∙ turn_turn b t
-
-order_is : (a b : Order) → is_order a b ≡ true → a ≡ b
-order_is Below Below h = refl
-order_is Below Above h = cc
-order_is Above Below h = cc
-order_is Above Above h = refl
-
-is_order_of : (a b : Order) → a ≡ b → is_order a b ≡ true
-is_order_of Below Below h = refl
-is_order_of Below Above h = cc
-is_order_of Above Below h = cc
-is_order_of Above Above h = refl
 
 some_same : {s t : Order} → Some s ≡ Some t → s ≡ t
 some_same e = cc
@@ -56,19 +41,7 @@ some_or_none (Some s) = inl (s, refl)
 -- an allowed assignment has the closure
 pub has_closure : (cons : List Constraint) (gs : List Given) (a : ℕ → Order) → IsAllowed cons gs a
     → (v : ℕ) (s : Order) → InClosure cons (Gives gs) v s → a v ≡ s
-has_closure cons gs a allowed v s inside = order_is (a v) s (inside (λ u t. is_order (a u) t) (record {
-  base_held = λ u t (i, g). is_order_of (a u) t
-      (ap a (sym g.variable) ∙ some_same (allowed.holds i g.given g.there) ∙ g.value);
-  forced_held = λ c con u t is f.
-      let r = allowed.meets c con is in
-      let fl = (term_at con.terms f.0).flipped in
-      let x = (term_at con.terms f.0).var in
-      let e : row_at r.1 f.0 ≡ turn fl t = f.3 r.0 r.1 r.2
-      (λ j b l q. r.3 j b l
-      (order_is (a (term_at con.terms j).var) (turn (term_at con.terms j).flipped b) q)) in
-      let d : row_at r.1 f.0 ≡ turn fl (a x) = r.3 f.0 (turn fl (a x)) f.1 (sym (turn_turn fl (a x))) in
-      is_order_of (a u) t (ap a (sym f.2) ∙ turn_one fl (a x) t (sym d ∙ e));
-}))
+has_closure cons gs a allowed = holds_closure cons gs a allowed.meets allowed.holds
 
 pub clash_allows_none : (cons : List Constraint) (gs : List Given) (a : ℕ → Order) → Clashes cons (Gives gs)
     → IsAllowed cons gs a → ⊥
@@ -481,7 +454,7 @@ first_least vars cons value p is v (suc i, l, e) = let r = is.rising 0 (suc i) (
     l in omega (arith, r, e)
 
 -- two parts have no variable in common
-parts_apart : (vars : ℕ) (cons : List Constraint) (value : ℕ → Option Order) (p q : List ℕ)
+pub parts_apart : (vars : ℕ) (cons : List Constraint) (value : ℕ → Option Order) (p q : List ℕ)
     → IsPart vars cons value p → IsPart vars cons value q → slice_index p 0 < slice_index q 0 → (v : ℕ)
     → Stands p v → Stands q v → ⊥
 parts_apart vars cons value p q is_p is_q less v (i, li, ei) (j, lj, ej) =

@@ -1,6 +1,7 @@
 -- Variables are put to the lists of their labels.
-use Rattle.std.proofs.Common.{◌≡◌, ℕ, zero, suc, ◌+◌, ◌-◌, ◌<◌, ◌≤◌, ◌⊎◌, inl, inr, List, [], ◌∷◌, ◌++◌, length, replicate, get_or, set, slice_index, refl, sym, ap, ◌∙◌, subst, arith, add-one, if◌then◌else◌, Vec}
+use Rattle.std.proofs.Common.{◌≡◌, ℕ, zero, suc, ◌+◌, ◌-◌, ◌<◌, ◌≤◌, ◌⊎◌, inl, inr, List, [], ◌∷◌, ◌++◌, length, replicate, get_or, set, slice_index, slice_get, Some, refl, sym, ap, ◌∙◌, subst, arith, add-one, if◌then◌else◌, Vec}
 use Rattle.std.specs.declared.alloc.Global.{Global}
+use Rattle.std.proofs.lemmas.Option.{slice_get_within, get_or_from_slice_get}
 use Rattle.std.proofs.lemmas.Bool.{cases_eq, eq-eqb, ne_eqb}
 use Rattle.std.proofs.lemmas.List.{map_push, length-set, get_or-set_same, get_or-set_other, get_or-map, get_or-replicate, length-replicate, replicate_more, get_or_append_left, get_or_push, length-append}
 use Rattle.ff_parts.specs.Gathers.{lists_in, members, Gathers, putting}
@@ -140,3 +141,17 @@ members_rise labels (suc n) k = elim (cases_eq (slice_index labels n) k) [
       ])
   | inr ne ↦ subst Rises (sym (member_isnt labels n k ne)) (members_rise labels n k)
 ]
+
+-- a list that was gathered
+pub listed : (labels : List ℕ) (n many : ℕ) (lists : List (List ℕ)) → Gathers labels n many lists → (k : ℕ)
+    (list : List ℕ) → slice_get lists k ≡ Some list → (k < many) × (list ≡ members labels n (suc k))
+listed labels n many lists g k list there =
+    let m : k < many = omega (arith, slice_get_within lists k list there, g.as_many) in
+    (m, sym (get_or_from_slice_get lists k list [] there) ∙ g.each k m)
+
+-- the same of equal labels
+pub gathered : (n : ℕ) (labels slice : List ℕ) (lists : List (List ℕ)) (many parts : ℕ) → length labels ≡ n
+    → slice ≡ labels → many ≡ parts → Gathers slice (length slice) many lists → Gathers labels n parts lists
+gathered n labels slice lists many parts long same count g = subst (λ k. Gathers labels k parts lists) long
+    (subst (λ m. Gathers labels (length labels) m lists) count
+    (subst (λ xs. Gathers xs (length xs) many lists) same g))

@@ -4,3 +4,6 @@ pub mod Gathered
 pub mod Beginning
 pub mod Classes
 pub mod Factoring
+pub mod Zipped
+pub mod Touching
+pub mod Apart

@@ -6,6 +6,7 @@ mod gathering;
 mod labelling;
 mod labels;
 mod laws;
+mod marking;
 
 pub use finding::parts;
-pub use laws::clash_allows_none;
+pub use laws::{clash_allows_none, constraints_touch_one_part, parts_factor, parts_share_out};

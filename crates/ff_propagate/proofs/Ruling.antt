@@ -7,9 +7,11 @@ use Rattle.ff_tables.proofs.Agreeing.{forces_more}
 use Rattle.ff_propagate.specs.declared.facts.Fact.{Fact}
 use Rattle.ff_propagate.specs.declared.facts.Reason.{Reason}
 use Rattle.ff_propagate.specs.declared.facts.Reason.TheVariants as by
-use Rattle.ff_propagate.specs.Facts.{fact_at, IsKnownBelow}
+use Rattle.ff_tables.specs.declared.orders.Order.{Order}
+use Rattle.ff_propagate.specs.Facts.{fact_at, value_at, IsKnownBelow}
 use Rattle.ff_propagate.specs.Closure.{InClosure, Gives}
 use Rattle.ff_propagate.specs.FactRule.{MeetsFactRule, StandsBy}
+use Rattle.ff_propagate.proofs.Lists.{seen_is}
 
 -- a fact is in the closure where those of lower levels are
 by_reason : (cons : List Constraint) (gs : List Given) (fs : List (Option Fact)) (v : ℕ) (h : Fact)
@@ -29,3 +31,12 @@ pub inside_below : (vars : ℕ) (cons : List Constraint) (gs : List Given) (fs :
 inside_below vars cons gs fs rule zero v h l at = absurd (omega (arith, l))
 inside_below vars cons gs fs rule (suc n) v h l at = by_reason cons gs fs v h
     (λ u g m there. inside_below vars cons gs fs rule n u g (omega (arith, m, l)) there) h.reason (rule.stands v h at)
+
+-- the values that the facts give are in the closure
+pub values_inside : (vars : ℕ) (cons : List Constraint) (gs : List Given) (fs : List (Option Fact))
+    → MeetsFactRule vars cons gs fs → (v : ℕ) (s : Order) → value_at fs v ≡ Some s
+    → InClosure cons (Gives gs) v s
+values_inside vars cons gs fs rule v s e =
+    let h = seen_is (fact_at fs v) s e in
+    subst (λ t. InClosure cons (Gives gs) v t) h.2
+    (inside_below vars cons gs fs rule (suc h.0.level) v h.0 (omega arith) h.1)

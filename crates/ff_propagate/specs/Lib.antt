@@ -3,6 +3,7 @@ pub mod Closure
 pub mod FactRule
 pub mod RuleLaws
 pub mod Closing
+pub mod ClosureLaws
 pub mod Parts
 pub mod Solutions
 pub mod Trees

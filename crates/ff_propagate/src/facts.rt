@@ -1,8 +1,8 @@
 //! Facts with their levels and reasons, and what a closure comes to.
 ghost use Rattle.std.specs.Prelude.{◌≡◌, ◌<◌, length, IfOk};
-ghost use Rattle.ff_propagate.specs.Facts.{fact_at};
+ghost use Rattle.ff_propagate.specs.Facts.{fact_at, value_at};
 
-use ff_tables::{Items, NoMemory, Order};
+use ff_tables::{Items, Known, NoMemory, Order};
 use std::alloc::Global;
 use std::marker::Model;
 
@@ -60,6 +60,18 @@ impl Facts {
         ensures { IfOk result (λ copied. copied ≡ self.now) }
     {
         Ok(Facts::of(self.list.copy(alloc)?))
+    }
+}
+
+/// The values that the facts give.
+impl Known for Facts {
+    ghost count = { λ fs. length fs };
+
+    ghost known = { λ fs v. value_at fs v };
+
+    #[inline]
+    fn value(&self, var: u32) -> Option<Order> {
+        self.fact(var).map(|fact| fact.value)
     }
 }
 

@@ -4,8 +4,6 @@
 mod heads;
 mod parts;
 mod refusals;
-#[cfg(test)]
-mod tests;
 
 pub use heads::head_text;
 pub use parts::{PartOutcome, part_text};

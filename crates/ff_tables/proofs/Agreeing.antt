@@ -112,6 +112,12 @@ pub forces_more : (kind : Kind) (ts : List Term) (less more : ℕ → Order → 
     → Forces kind ts less v s → Forces kind ts more v s
 forces_more kind ts less more v s up f = (f.0, f.1, f.2, λ k row at a. f.3 k row at (λ j b l q. a j b l (up j _ l q)))
 
+-- a constraint that is dead by less is dead by more
+pub dead_more : (kind : Kind) (ts : List Term) (less more : ℕ → Order → Type 0)
+    → ((j : ℕ) (t : Order) → j < length ts → less (term_at ts j).var t → more (term_at ts j).var t)
+    → NoneAgrees kind ts less → NoneAgrees kind ts more
+dead_more kind ts less more up none k row at a = none k row at (λ j b l q. a j b l (up j _ l q))
+
 -- the test of a row says what the relation says
 pub agrees_tested : (ts : List Term) (f : ℕ → Option Order) (row : List Order)
     → (agrees_below ts f (length ts) row ≡ true) ↔ Agrees ts (Knows f) row

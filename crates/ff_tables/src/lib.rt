@@ -19,7 +19,7 @@ pub use fitting::system_of;
 pub use forcing::forced;
 pub use givens::{Given, GivenBy};
 pub use known::{Forced, Known};
-pub use laws::rows_are_orders;
+pub use laws::{more_known_forces_more, rows_are_orders};
 pub use lists::Items;
 pub use memory::NoMemory;
 pub use orders::Order;
