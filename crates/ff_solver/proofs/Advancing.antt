@@ -7,16 +7,14 @@ use Rattle.std.proofs.lemmas.List.Elements.{filter_map-append}
 use Rattle.ff_tables.specs.declared.orders.Order.{Order}
 use Rattle.ff_tables.specs.declared.terms.Constraint.{Constraint}
 use Rattle.ff_propagate.specs.declared.parts.Part.{Part}
-use Rattle.ff_propagate.specs.declared.facts.Facts.{Facts}
-use Rattle.ff_propagate.specs.Facts.{value_at}
 use Rattle.ff_propagate.specs.Solutions.{solutions_of}
 use Rattle.ff_propagate.specs.Trees.{Tree, IsTree, visits, found, same}
 use Rattle.ff_solver.specs.declared.state.Search.{Search}
 use Rattle.ff_solver.specs.declared.state.Advance.{Advance}
 use Rattle.ff_solver.specs.declared.state.Advance.TheVariants.{Found, Finished, Spent}
 use Rattle.ff_solver.specs.Paths.{AreLeft, AreNext, Nodes}
-use Rattle.ff_solver.specs.Searches.{IsSearch, IsSameSearch, IsRun, Advances, IsIn, StandsAt, IsAdvance, AdvancesIn, idle, solution_in}
-use Rattle.ff_solver.proofs.Running.{visits_some, times_more}
+use Rattle.ff_solver.specs.Searches.{IsSearch, IsSameSearch, AreLeftIn, IsRun, Advances, IsIn, StandsAt, IsAdvance, GoesOn, AnswersIn, idle, solution_in}
+use Rattle.ff_solver.proofs.Running.{carried, visits_some, times_more}
 use Rattle.ff_solver.proofs.Unique.{same_tree}
 
 -- the nodes that a call visits
@@ -54,16 +52,16 @@ front_of cost turns before after steps Spent a = record {
 }
 
 -- what a call does in the tree
-pub record IsDone (cons : List Constraint) (old new : Search) (turns : ℕ) (tree : Tree)
+pub record IsDone (cons : List Constraint) (value : ℕ → Option Order) (old new : Search) (turns : ℕ) (tree : Tree)
     (answer : Advance) : Type 0 where
-  pub is_in : IsIn cons new tree
+  pub is_in : IsIn cons value new tree
   pub advance : IsAdvance tree (length old.part.vars) turns old.visited new.visited answer
 
-pub done_in : (cons : List Constraint) (turns : ℕ) (old new : Search) (tree : Tree) (answer : Advance)
-    → IsIn cons old tree → IsSameSearch old new
-    → IsRun cons (value_at old.facts) turns old new (drop old.visited (visits tree)) answer
-    → IsDone cons old new turns tree answer
-done_in cons turns old new tree answer is same_search run =
+pub done_in : (cons : List Constraint) (value : ℕ → Option Order) (turns : ℕ) (old new : Search) (tree : Tree) (answer : Advance)
+    → (is : IsIn cons value old tree) → IsSameSearch old new
+    → IsRun is.own_value turns old new (drop old.visited (visits tree)) answer
+    → IsDone cons value old new turns tree answer
+done_in cons value turns old new tree answer is same_search run =
     let f = front_of (length old.part.vars) turns (drop old.visited (visits tree)) run.later run.steps answer
     run.advances in
     let vis = visits tree in
@@ -77,21 +75,17 @@ done_in cons turns old new tree answer is same_search run =
     length-append (take old.visited vis) f.front
     ∙ ap (λ n. n + length f.front) (length-take-le old.visited vis is.within)
     ∙ ap (λ n. old.visited + n) f.long ∙ sym run.counted in
-    let facts : value_at new.facts ≡ value_at old.facts = ap (λ (fs : Facts). value_at fs) same_search.facts
-    in
     let part : new.part.vars ≡ old.part.vars = ap (λ (p : Part). p.vars) same_search.part in
     record {
       is_in = record {
-        is_tree = subst (λ value. IsTree cons value new.part.vars tree) (sym facts)
-            (subst (λ vs. IsTree cons (value_at old.facts) vs tree) (sym part) is.is_tree);
+        is_tree = subst (λ vs. IsTree cons value vs tree) (sym part) is.is_tree;
         within = subst (λ n. n ≤ length vis) long
             (omega (arith, ap length whole, length-append (take old.visited vis ++ f.front) run.later));
-        left = subst (λ ns. AreLeft cons (value_at new.facts) new.part.vars new.path new.path.next ns) rest
-            (subst (λ value. AreLeft cons value new.part.vars new.path new.path.next run.later) (sym facts)
-            (subst (λ vs. AreLeft cons (value_at old.facts) vs new.path new.path.next run.later)
-            (sym part) run.left));
-        solutions = is.solutions ∙ ap (λ value. solutions_of cons value old.part.vars) (sym facts)
-            ∙ ap (solutions_of cons (value_at new.facts)) (sym part);
+        own_value = is.own_value;
+        left = subst (λ ns. AreLeftIn is.own_value new ns) rest
+            (carried old new same_search
+            (λ own places. AreLeft own is.own_value places new.path new.path.next run.later) run.left);
+        solutions = is.solutions ∙ ap (solutions_of cons value) (sym part);
       };
       advance = record {
         steps = run.steps;
@@ -105,25 +99,29 @@ done_in cons turns old new tree answer is same_search run =
       };
     }
 
-pub advanced : (vars : ℕ) (cons : List Constraint) (turns : ℕ) (old new : Search) (answer : Advance)
-    → StandsAt vars cons old → IsSearch vars cons new → IsSameSearch old new
-    → ((value : ℕ → Option Order) (nodes : Nodes) → AreLeft cons value old.part.vars old.path old.path.next
-    nodes → IsRun cons value turns old new nodes answer)
-    → StandsAt vars cons new × AdvancesIn cons old turns new answer
-advanced vars cons turns old new answer at search same_search run =
-    let d = done_in cons turns old new at.tree answer at.is_in same_search
-    (run (value_at old.facts) (drop old.visited (visits at.tree)) at.is_in.left) in (
-      record { search = search; tree = at.tree; is_in = d.is_in },
-      λ tree is. subst (λ t. IsAdvance t (length old.part.vars) turns old.visited new.visited answer)
-          (same_tree cons (λ v s. value_at old.facts v ≡ Some s) old.part.vars [] at.tree tree
-          at.is_in.is_tree is) d.advance,
-    )
+pub advanced : (cons : List Constraint) (turns : ℕ) (old new : Search) (answer : Advance)
+    → IsSearch new → IsSameSearch old new
+    → ((value : ℕ → Option Order) (nodes : Nodes) → AreLeftIn value old nodes → IsRun value turns old new nodes answer)
+    → GoesOn cons old new × AnswersIn cons old turns new answer
+advanced cons turns old new answer search same_search run = (
+  λ value at. record { search = search; tree = at.tree; is_in = (done value at).is_in },
+  λ value at tree is. subst (λ t. IsAdvance t (length old.part.vars) turns old.visited new.visited answer)
+      (same_tree cons (λ v s. value v ≡ Some s) old.part.vars [] at.tree tree
+      at.is_in.is_tree is) (done value at).advance,
+)
+  where
+    done : (value : ℕ → Option Order) → (at : StandsAt cons value old) → IsDone cons value old new turns at.tree answer
+    done value at = done_in cons value turns old new at.tree answer at.is_in same_search
+        (run at.is_in.own_value (drop old.visited (visits at.tree)) at.is_in.left)
+
+pub itself : (s : Search) → IsSameSearch s s
+itself s = record { system = refl; places = refl; part = refl }
 
 -- a search whose tree has ended
-pub stays_finished : (vars : ℕ) (cons : List Constraint) (turns : ℕ) (s : Search) → StandsAt vars cons s
-    → s.path.next ≡ None → AdvancesIn cons s turns s Finished
-stays_finished vars cons turns s at
-    ended = (advanced vars cons turns s s Finished at at.search (record { facts = refl; part = refl }) (λ value nodes left. record {
+pub stays_finished : (cons : List Constraint) (turns : ℕ) (s : Search) → IsSearch s
+    → s.path.next ≡ None → AnswersIn cons s turns s Finished
+stays_finished cons turns s search
+    ended = (advanced cons turns s s Finished search (itself s) (λ value nodes left. record {
       steps = 0;
       later = nodes;
       counted = omega arith;
@@ -131,19 +129,18 @@ stays_finished vars cons turns s at
       advances = record { nodes = none value nodes left; ended = none value nodes left; covered = subst (λ n. n ≤ turns) (sym (mul-zero (length s.part.vars))) (omega arith) };
     })).1
   where
-    none : (value : ℕ → Option Order) (nodes : Nodes)
-        → AreLeft cons value s.part.vars s.path s.path.next nodes → nodes ≡ []
-    none value nodes left = subst (λ o. AreLeft cons value s.part.vars s.path o nodes) ended left
+    none : (value : ℕ → Option Order) (nodes : Nodes) → AreLeftIn value s nodes → nodes ≡ []
+    none value nodes left = subst (λ o. AreLeft s.system.constraints value s.places s.path o nodes) ended left
 
 some_next : (o : Option ℕ) → (o ≡ None → ⊥) → (head : ℕ) × (o ≡ Some head)
 some_next None some = absurd (some refl)
 some_next (Some head) some = (head, refl)
 
 -- a search whose tree goes on, with turns that don't cover a node
-pub stays_spent : (vars : ℕ) (cons : List Constraint) (turns : ℕ) (s : Search) → StandsAt vars cons s
-    → (s.path.next ≡ None → ⊥) → turns < length s.part.vars → AdvancesIn cons s turns s Spent
-stays_spent vars cons turns s at goes_on
-    short = (advanced vars cons turns s s Spent at at.search (record { facts = refl; part = refl }) (λ value nodes left. record {
+pub stays_spent : (cons : List Constraint) (turns : ℕ) (s : Search) → IsSearch s
+    → (s.path.next ≡ None → ⊥) → turns < length s.part.vars → AnswersIn cons s turns s Spent
+stays_spent cons turns s search goes_on
+    short = (advanced cons turns s s Spent search (itself s) (λ value nodes left. record {
       steps = 0;
       later = nodes;
       counted = omega arith;
@@ -156,10 +153,9 @@ stays_spent vars cons turns s at goes_on
       };
     })).1
   where
-    next : (value : ℕ → Option Order) (nodes : Nodes)
-        → AreLeft cons value s.part.vars s.path s.path.next nodes
-        → AreNext cons value s.part.vars s.path nodes
-    next value nodes left = subst (λ o. AreLeft cons value s.part.vars s.path o nodes)
+    next : (value : ℕ → Option Order) (nodes : Nodes) → AreLeftIn value s nodes
+        → AreNext s.system.constraints value s.places s.path nodes
+    next value nodes left = subst (λ o. AreLeft s.system.constraints value s.places s.path o nodes)
         (some_next s.path.next goes_on).1 left
 
 pub no_next : (o : Option ℕ) → is_some o ≡ false → o ≡ None

@@ -192,21 +192,21 @@ all_or_more vars cons fit f (suc n) = elim (all_or_more vars cons fit f n) [
 ]
 
 -- how many of the first n variables are unknown
-abbrev unknown_of : Option Order → ℕ
+abbrev pub unknown_of : Option Order → ℕ
 unknown_of None = 1
 unknown_of (Some s) = 0
 
-abbrev count_open : (ℕ → Option Order) → ℕ → ℕ
+abbrev pub count_open : (ℕ → Option Order) → ℕ → ℕ
 count_open f zero = 0
 count_open f (suc n) = count_open f n + unknown_of (f n)
 
-abbrev put : (ℕ → Option Order) → ℕ → Order → ℕ → Option Order
+abbrev pub put : (ℕ → Option Order) → ℕ → Order → ℕ → Option Order
 put f v s u = if v == u then Some s else f u
 
-put_here : (f : ℕ → Option Order) (v : ℕ) (s : Order) → put f v s v ≡ Some s
+pub put_here : (f : ℕ → Option Order) (v : ℕ) (s : Order) → put f v s v ≡ Some s
 put_here f v s = ap (λ t. if t then Some s else f v) (eq-eqb v v refl)
 
-put_other : (f : ℕ → Option Order) (v : ℕ) (s : Order) (u : ℕ) → (u ≡ v → ⊥) → put f v s u ≡ f u
+pub put_other : (f : ℕ → Option Order) (v : ℕ) (s : Order) (u : ℕ) → (u ≡ v → ⊥) → put f v s u ≡ f u
 put_other f v s u ne = ap (λ t. if t then Some s else f u) (ne_eqb v u (λ e. ne (sym e)))
 
 count_same : (f : ℕ → Option Order) (v : ℕ) (s : Order) (n : ℕ) → n ≤ v
@@ -252,11 +252,11 @@ value_or (Some s) = s
 
 module _ (vars : ℕ) (cons : List Constraint) (value : ℕ → Option Order) (fit : AreFit vars cons) where
   -- a node's closure
-  record IsClosedNode (tried : List (ℕ × Order)) (f : ℕ → Option Order) : Type 0 where
-    values : ℕ → Option Order
-    node : IsAtNode cons value tried values
-    silent : AreSilent cons values
-    fewer : count_open values vars ≤ count_open f vars
+  pub record IsClosedNode (tried : List (ℕ × Order)) (f : ℕ → Option Order) : Type 0 where
+    pub values : ℕ → Option Order
+    pub node : IsAtNode cons value tried values
+    pub silent : AreSilent cons values
+    pub fewer : count_open values vars ≤ count_open f vars
 
   forced_node : (tried : List (ℕ × Order)) (f : ℕ → Option Order) → IsAtNode cons value tried f
       → (c : ℕ) (con : Constraint) → slice_get cons c ≡ Some con → (v : ℕ) (s : Order) → f v ≡ None
@@ -329,7 +329,7 @@ module _ (vars : ℕ) (cons : List Constraint) (value : ℕ → Option Order) (f
       → AreSilent cons f
   all_of f all c con is = all c con (slice_get_within cons c con is) is
 
-  close_by : (fuel : ℕ) (tried : List (ℕ × Order)) (f : ℕ → Option Order) → IsAtNode cons value tried f
+  pub close_by : (fuel : ℕ) (tried : List (ℕ × Order)) (f : ℕ → Option Order) → IsAtNode cons value tried f
       → count_open f vars ≤ fuel → IsClashNode cons (Knows value) tried ⊎ IsClosedNode tried f
   close_by zero tried f node few = elim (all_or_more vars cons fit f (length cons)) [
     | inl all ↦ inr (record { values = f; node = node; silent = all_of f all; fewer = omega arith })

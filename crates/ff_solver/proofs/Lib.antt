@@ -10,5 +10,9 @@ pub mod Visited
 pub mod Running
 pub mod Existing
 pub mod Unique
+pub mod Touching
+pub mod Copies
+pub mod Copied
+pub mod OwnTrees
 pub mod Advancing
 pub mod Started

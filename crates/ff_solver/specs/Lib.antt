@@ -1,3 +1,4 @@
 pub mod Trails
 pub mod Paths
+pub mod Copies
 pub mod Searches

@@ -2,6 +2,7 @@
 #![tactic(auto)]
 
 mod closing;
+mod copying;
 mod path;
 mod search;
 mod starting;

@@ -3,11 +3,11 @@ ghost use Rattle.std.specs.Prelude.{◌≡◌, ℕ, ◌+◌, ◌*◌, ◌<◌, �
 ghost use Rattle.ff_tables.specs.declared.orders.Order.{Order as OrderSpec};
 ghost use Rattle.ff_solver.specs.Trails.{known, IsTrail};
 ghost use Rattle.ff_solver.specs.Paths.{AreDecided, AreValues, AreWithin, AreLeft, AreNext, ArePending, IsPassed, IsSolved, Nodes};
-ghost use Rattle.ff_solver.specs.Searches.{IsSearch, IsSameSearch, IsAtSolution, IsRun, IsRunning, StandsAt, AdvancesIn};
+ghost use Rattle.ff_solver.specs.Searches.{IsSearch, IsSameSearch, IsAtSolution, AreLeftIn, IsRun, GoesOn, AnswersIn};
 
 use crate::state::{Advance, Search};
 use crate::trail::Trail;
-use ff_tables::{Items, Known, NoMemory, Order, System};
+use ff_tables::{Items, Known, NoMemory, Order};
 use ff_types::Case;
 use std::alloc::Global;
 
@@ -35,58 +35,56 @@ impl Search {
     }
 
     // Visits the next node. Whether it is a solution.
-    fn step(&mut self, system: &System, head: u32) -> bool
-        requires search { IsSearch system.now.vars system.now.constraints self.old }
-        requires few { length system.now.constraints < 2 ^ 32 }
+    fn step(&mut self, head: u32) -> bool
+        requires search { IsSearch self.old }
         requires next { self.old.path.next ≡ Some head }
         requires room { length self.old.part.vars * (self.old.visited + 1) < 2 ^ 64 }
         ensures same { IsSameSearch self.old self.new }
         ensures visited { self.new.visited ≡ self.old.visited + 1 }
-        ensures search { result ≡ false → IsSearch system.now.vars system.now.constraints self.new }
-        ensures solution { IsTrue result → IsAtSolution system.now.vars system.now.constraints self.new }
-        ensures passed { result ≡ false → (value : ℕ → Option OrderSpec) (nodes : Nodes) → AreNext system.now.constraints value self.old.part.vars self.old.path nodes
-            → IsPassed system.now.constraints value self.old.part.vars self.new.path nodes }
-        ensures solved { IsTrue result → (value : ℕ → Option OrderSpec) (nodes : Nodes) → AreNext system.now.constraints value self.old.part.vars self.old.path nodes
-            → IsSolved system.now.constraints value self.old.part.vars self.new.path nodes }
+        ensures search { result ≡ false → IsSearch self.new }
+        ensures solution { IsTrue result → IsAtSolution self.new }
+        ensures passed { result ≡ false → (value : ℕ → Option OrderSpec) (nodes : Nodes) → AreNext self.old.system.constraints value self.old.places self.old.path nodes
+            → IsPassed self.old.system.constraints value self.old.places self.new.path nodes }
+        ensures solved { IsTrue result → (value : ℕ → Option OrderSpec) (nodes : Nodes) → AreNext self.old.system.constraints value self.old.places self.old.path nodes
+            → IsSolved self.old.system.constraints value self.old.places self.new.path nodes }
     {
         self.visited += 1;
         self.path
-            .visit(system, &self.uses, self.part.vars.as_slice(), head)
+            .visit(&self.system, &self.uses, self.places.as_slice(), head)
     }
 
     // Reads the solution, and goes to the last branch that is left.
-    fn answer(&mut self, system: &System, mut values: Vec<Order>) -> Items<Order>
-        requires search { IsAtSolution system.now.vars system.now.constraints self.old }
+    fn answer(&mut self, mut values: Vec<Order>) -> Items<Order>
+        requires search { IsAtSolution self.old }
         requires empty { values.items ≡ [] }
         requires room { length self.old.part.vars ≤ vec_capacity values }
         ensures same { IsSameSearch self.old self.new }
         ensures visited { self.new.visited ≡ self.old.visited }
-        ensures search { IsSearch system.now.vars system.now.constraints self.new }
-        ensures values { AreValues self.old.part.vars self.old.path.trail result }
-        ensures left { (value : ℕ → Option OrderSpec) (part : List ℕ) (nodes : Nodes) → ArePending system.now.constraints value part self.old.path nodes
-            → AreLeft system.now.constraints value part self.new.path self.new.path.next nodes }
+        ensures search { IsSearch self.new }
+        ensures values { AreValues self.old.places self.old.path.trail result }
+        ensures left { (value : ℕ → Option OrderSpec) (part : List ℕ) (nodes : Nodes) → ArePending self.old.system.constraints value part self.old.path nodes
+            → AreLeft self.old.system.constraints value part self.new.path self.new.path.next nodes }
     {
         read_values(
-            self.part.vars.as_slice(),
+            self.places.as_slice(),
             &self.path.trail,
-            system.vars,
+            self.system.vars,
             &mut values,
         );
-        self.path.backtrack(system);
+        self.path.backtrack(&self.system);
         Items::of(values)
     }
 
     // Goes on from the next node, with the memory of an answer.
-    fn run(&mut self, system: &System, turns: u64, values: Vec<Order>) -> Advance
-        requires search { IsSearch system.now.vars system.now.constraints self.old }
-        requires few { length system.now.constraints < 2 ^ 32 }
+    fn run(&mut self, turns: u64, values: Vec<Order>) -> Advance
+        requires search { IsSearch self.old }
         requires turns { length self.old.part.vars * self.old.visited + turns < 2 ^ 64 }
         requires empty { values.items ≡ [] }
         requires room { length self.old.part.vars ≤ vec_capacity values }
-        ensures search { IsSearch system.now.vars system.now.constraints self.new }
+        ensures search { IsSearch self.new }
         ensures same { IsSameSearch self.old self.new }
-        ensures run { (value : ℕ → Option OrderSpec) (nodes : Nodes) → AreLeft system.now.constraints value self.old.part.vars self.old.path self.old.path.next nodes
-            → IsRun system.now.constraints value turns self.old self.new nodes result }
+        ensures run { (value : ℕ → Option OrderSpec) (nodes : Nodes) → AreLeftIn value self.old nodes
+            → IsRun value turns self.old self.new nodes result }
     {
         let cost = self.cost();
         let mut left = turns;
@@ -95,8 +93,8 @@ impl Search {
                 return Advance::Spent;
             }
             left -= cost;
-            if self.step(system, head) {
-                return Advance::Found(self.answer(system, values));
+            if self.step(head) {
+                return Advance::Found(self.answer(values));
             }
         }
         Advance::Finished
@@ -104,14 +102,15 @@ impl Search {
 
     /// Visits nodes in tree order while the turns that are left in this call cover one, up to the next solution.
     pub fn advance(&mut self, alloc: Global, case: &Case, turns: u64) -> Result<Advance, NoMemory>
-        requires stands { StandsAt case.now.system.vars case.now.system.constraints self.old }
-        requires few { length case.now.system.constraints < 2 ^ 32 }
+        requires search { IsSearch self.old }
         requires turns { length self.old.part.vars * self.old.visited + turns < 2 ^ 64 }
-        ensures stands { StandsAt case.now.system.vars case.now.system.constraints self.new }
+        ensures search { IsSearch self.new }
+        ensures stands { GoesOn case.now.system.constraints self.old self.new }
         ensures same { IsSameSearch self.old self.new }
-        ensures advances { IfOk result (λ r. AdvancesIn case.now.system.constraints self.old turns self.new r) }
+        ensures advances { IfOk result (λ r. AnswersIn case.now.system.constraints self.old turns self.new r) }
         ensures kept { OnErr result (self.new ≡ self.old) }
     {
+        let _ = case;
         if self.path.next.is_none() {
             return Ok(Advance::Finished);
         }
@@ -120,7 +119,7 @@ impl Search {
             return Ok(Advance::Spent);
         }
         let values = Vec::with_capacity(alloc, cost as usize)?;
-        Ok(self.run(&case.system, turns, values))
+        Ok(self.run(turns, values))
     }
 
     /// The turns of all nodes that were visited. It takes no memory.
