@@ -1,16 +1,17 @@
 -- The cells of each face, cell by cell.
-use Rattle.std.proofs.Common.{◌≡◌, ℕ, zero, suc, ◌+◌, ◌<◌, ◌≤◌, ◌⊎◌, inl, inr, refl, sym, ap, ◌∙◌, subst, arith, List, [], ◌∷◌, ◌++◌, length, replicate, get_or, set, slice_index, slice_index_or, slice_set, slice_get, Some, Vec}
+use Rattle.std.proofs.Common.{◌≡◌, ℕ, zero, suc, ◌+◌, ◌<◌, ◌⊎◌, inl, inr, refl, sym, ap, ◌∙◌, subst, arith, List, [], ◌∷◌, ◌++◌, length, replicate, get_or, set, slice_index, slice_set, slice_get, Some, Vec}
 use Rattle.std.specs.declared.alloc.Global.{Global}
-use Rattle.std.specs.List.{All, Contains}
+use Rattle.std.specs.List.{Contains}
 use Rattle.std.specs.List.Sorted.{IsStrictlyIncreasing}
 use Rattle.std.proofs.lemmas.Bool.{cases_eq}
-use Rattle.std.proofs.lemmas.List.{map_push, length-set, get_or-set_same, get_or-set_other, get_or-map, get_or-replicate, length-replicate, replicate_more, get_or_append_left, get_or_default, get_or_push, length-append}
+use Rattle.std.proofs.lemmas.List.{map_push, length-set, get_or-set_same, get_or-set_other, get_or-map, get_or-replicate, length-replicate, replicate_more, get_or_append_left, get_or_push, length-append}
 use Rattle.std.proofs.lemmas.List.Kept.{AllPairs-from_increasing}
 use Rattle.std.proofs.Math.ListN.{take}
 use Rattle.std.proofs.Math.Seq.{take-append_seam}
+use Rattle.std.proofs.lemmas.Option.{slice_get_within}
 use Rattle.ff_whole.proofs.Searches.{search}
 use Rattle.ff_cells.specs.declared.cell.Cell.{Cell}
-use Rattle.ff_trans.specs.Rows.{HasFace, HaveSameFaces, IsRepeated, AreCellsOf, list_at, lists_in, AreIndexed, IsPut}
+use Rattle.ff_trans.specs.Rows.{HasFace, AreCellsOf, HoldBoth, list_at, lists_in, AreIndexed, IsPut}
 use Rattle.ff_trans.proofs.Marks.{below_or, some_is, place_in, member_at}
 
 pub put_one : (lists : List (Vec ℕ Global)) (p v : ℕ) (old new : Vec ℕ Global) → p < length lists → old ≡ get_or lists p old
@@ -66,9 +67,6 @@ put_more faces j cell old mid new up l below a e = record {
 
 -- ---- all of them
 
-same_place : (cells : List Cell) (i j : ℕ) → i ≡ j → HaveSameFaces cells i j
-same_place cells i j e c d s t = ap (λ (z : Cell). z.faces) (some_is c d (sym s ∙ ap (slice_get cells) e ∙ t))
-
 pub index_none : (cells : List Cell) (w : ℕ) (lists : List (List ℕ)) → lists ≡ replicate w [] → AreIndexed cells 0 w lists
 index_none cells w lists e = record {
   long = ap length e ∙ length-replicate w [];
@@ -100,9 +98,9 @@ module _ (cells : List Cell) (i f : ℕ) (list : List ℕ) (of : AreCellsOf cell
     ];
     all = λ k l face. elim (below_or k i l) [
       | inl m ↦ (let r = of.all k m face in let b = r.1 in let e = kept r.0 r.1 in let le = r.2 in
-          (r.0, (let n = longer in omega (arith, b, n)), omega (arith, e, le), subst (λ v. HaveSameFaces cells v k) (sym e) r.3))
+          (r.0, (let n = longer in omega (arith, b, n)), e ∙ le))
       | inr m ↦ (let e : slice_index (list ++ i ∷ []) (length list) ≡ k = get_or_push list i 0 (length list) refl ∙ sym m in
-          (length list, (let n = longer in omega (arith, n)), omega (arith, e), same_place cells (slice_index (list ++ i ∷ []) (length list)) k e))
+          (length list, (let n = longer in omega (arith, n)), e))
     ];
   }
 
@@ -112,23 +110,6 @@ module _ (cells : List Cell) (i f : ℕ) (list : List ℕ) (of : AreCellsOf cell
     each = λ x m. (let r = of.each x m in let b = r.0 in (omega (arith, b), r.1));
     all = λ k l face. elim (below_or k i l) [ inl m ↦ of.all k m face | inr m ↦ absurd (not (subst (λ n. HasFace cells n f) m face)) ];
   }
-
-  -- a cell with the same faces was put before
-  skipped : IsRepeated cells i → AreCellsOf cells (i + 1) f list
-  skipped again = record {
-    rising = of.rising;
-    each = λ x m. (let r = of.each x m in let b = r.0 in (omega (arith, b), r.1));
-    all = λ k l face. elim (below_or k i l) [ inl m ↦ of.all k m face | inr m ↦ by k m face ];
-  } where
-    by : (k : ℕ) → k ≡ i → HasFace cells k f → (x : ℕ) × (x < length list) × (slice_index list x ≤ k) × HaveSameFaces cells (slice_index list x) k
-    by k m face =
-        let same : HaveSameFaces cells again.before k = subst (HaveSameFaces cells again.before) (sym m) again.same in
-        let r = of.all again.before again.less (record { cell = again.cell; there = again.there; face = subst (λ fs. Contains fs f) (sym (same again.cell face.cell again.there face.there)) face.face }) in
-        let le = r.2 in let less = again.less in
-        (r.0, r.1, omega (arith, le, less, m), λ c d s t. r.3 c again.cell s again.there ∙ same again.cell d again.there t)
-
-pub index_again : (cells : List Cell) (i w : ℕ) (lists : List (List ℕ)) → IsRepeated cells i → AreIndexed cells i w lists → AreIndexed cells (i + 1) w lists
-index_again cells i w lists again a = record { long = a.long; each = λ f l. skipped cells i f (list_at lists f) (a.each f l) again }
 
 pub index_more : (cells : List Cell) (i w : ℕ) (c : Cell) (old new : List (List ℕ)) → slice_get cells i ≡ Some c → AreIndexed cells i w old → IsPut c.faces (length c.faces) i old new → AreIndexed cells (i + 1) w new
 index_more cells i w c old new at a p = record { long = p.long ∙ a.long; each = each } where
@@ -144,32 +125,23 @@ index_more cells i w c old new at a p = record { long = p.long ∙ a.long; each 
 pub whole : {A : Type 0} (n : ℕ) (xs ys : List A) → n ≡ length xs → take n (xs ++ ys) ≡ xs
 whole n xs ys e = ap (λ k. take k (xs ++ ys)) e ∙ take-append_seam xs ys
 
--- ---- a cell that was put before
+-- ---- the cells of two faces
 
--- numbers of cells that have a face
-pub listed_below : (cells : List Cell) (i f : ℕ) (list : List ℕ) → AreCellsOf cells i f list → i < length cells → (k d : ℕ) → k < length list → slice_index_or list k d < length cells
-listed_below cells i f list of within k d l =
-    let r = (of.each k l).0 in
-    let e = get_or_default list k d 0 l in
-    omega (arith, e, r, within)
+pub both_of_first : (cells : List Cell) (f h : ℕ) (list : List ℕ) → AreCellsOf cells (length cells) f list → HoldBoth cells f h list
+both_of_first cells f h list of = record {
+  rising = of.rising;
+  within = λ x l. (of.each x l).0;
+  all = λ i a b. of.all i (slice_get_within cells i a.cell a.there) a;
+}
 
-pub repeated : (cells : List Cell) (i f : ℕ) (list faces : List ℕ) (c : Cell) → AreCellsOf cells i f list → slice_get cells i ≡ Some c → faces ≡ c.faces → (x : ℕ) → x < length list
-    → ((d : Cell) → slice_get cells (slice_index list x) ≡ Some d → d.faces ≡ faces) → IsRepeated cells i
-repeated cells i f list faces c of at e x l same =
-    let r = of.each x l in
-    record {
-      before = slice_index list x;
-      cell = r.1.cell;
-      less = r.0;
-      there = r.1.there;
-      same = λ a b s t. same a s ∙ e ∙ ap (λ (z : Cell). z.faces) (some_is c b (sym at ∙ t));
-    }
+pub both_of_second : (cells : List Cell) (f h : ℕ) (list : List ℕ) → AreCellsOf cells (length cells) h list → HoldBoth cells f h list
+both_of_second cells f h list of = record {
+  rising = of.rising;
+  within = λ x l. (of.each x l).0;
+  all = λ i a b. of.all i (slice_get_within cells i b.cell b.there) b;
+}
 
--- the first face of a cell, and the cells that were put for it
-pub first_below : (cells : List Cell) (i w : ℕ) (cell : Cell) (faces : List ℕ) → All (λ (c : Cell). All (λ f. f < w) c.faces) cells → i < length cells → faces ≡ (get_or cells i cell).faces
-    → 0 < length faces → slice_index faces 0 < w
-first_below cells i w cell faces below within e some = subst (λ fs. slice_index fs 0 < w) (sym e) (below i cell within 0 0 (subst (λ fs. 0 < length fs) e some))
-
+-- the cells that were put for a face
 pub put_for : (cells : List Cell) (i f : ℕ) (lists : List (Vec ℕ Global)) (v : Vec ℕ Global) (list : List ℕ) → AreIndexed cells i (length lists) (lists_in lists) → f < length lists
     → v ≡ get_or lists f v → list ≡ v.items → AreCellsOf cells i f list
 put_for cells i f lists v list index below is read =

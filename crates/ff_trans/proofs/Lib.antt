@@ -2,4 +2,4 @@ pub mod Marks
 pub mod Indexes
 pub mod Keys
 pub mod Lists
-pub mod Found
+pub mod FoundTriples

@@ -96,19 +96,26 @@ module _ (cells : List Cell) (pairs : List (ℕ × ℕ)) where
         let e = same_pair n f h (subst (λ j. slice_get pairs j ≡ Some (f, h)) q.0 p) in
         subst (λ x. HasThree cells i x (pair_at pairs n).1 k) (sym (ap (λ z. z.0) e)) (subst (λ x. HasThree cells i f x k) (sym (ap (λ z. z.1) e)) (subst (λ x. HasThree cells i f h x) q.1 three))
 
-  pub row_ends : (n k : ℕ) (list : List Listed) → ((i f h third : ℕ) → HasThree cells i f h third → third < k) → Listed_to n k list → Listed_to (n + 1) 0 list
+  pub row_ends : (n k : ℕ) (list : List Listed) → ((i third : ℕ) → HasThree cells i (pair_at pairs n).0 (pair_at pairs n).1 third → third < k) → Listed_to n k list → Listed_to (n + 1) 0 list
   row_ends n k list last s = record {
     only = λ m l e. weaker n k (n + 1) 0 l on (s.only m l e);
     sorted = s.sorted;
-    all = λ m f h third i p a three prior. s.all m f h third i p a three (back m third (last i f h third three) prior);
+    all = λ m f h third i p a three prior. s.all m f h third i p a three (back m f h third i p three prior);
   } where
     on : (m d : ℕ) → IsPrior m d n k → IsPrior m d (n + 1) 0
     on m d (inl l) = inl (omega (arith, l))
     on m d (inr l) = inl (let e = l.0 in omega (arith, e))
 
-    back : (m third : ℕ) → third < k → IsPrior m third (n + 1) 0 → IsPrior m third n k
-    back m third l (inr p) = absurd (let b = p.1 in omega (arith, b))
-    back m third l (inl p) = elim (below_or m n p) [ inl b ↦ inl b | inr e ↦ inr (e, l) ]
+    back : (m f h third i : ℕ) → slice_get pairs m ≡ Some (f, h) → HasThree cells i f h third → IsPrior m third (n + 1) 0 → IsPrior m third n k
+    back m f h third i at three (inr p) = absurd (let b = p.1 in omega (arith, b))
+    back m f h third i at three (inl p) = elim (below_or m n p) [
+      | inl b ↦ inl b
+      | inr e ↦ (let q = same_pair n f h (subst (λ j. slice_get pairs j ≡ Some (f, h)) e at) in inr (
+        e,
+        last i third
+            (subst (λ x. HasThree cells i x (pair_at pairs n).1 third) (sym (ap (λ z. z.0) q)) (subst (λ x. HasThree cells i f x third) (sym (ap (λ z. z.1) q)) three)),
+      ))
+    ]
 
   -- ---- one more
 

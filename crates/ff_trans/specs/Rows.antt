@@ -1,5 +1,5 @@
 -- How the triples are found: for each pair the faces above it that share a cell with both.
-use Rattle.std.specs.Prelude.{◌≡◌, ℕ, ◌<◌, ◌≤◌, ◌⊎◌, List, [], ◌∷◌, ◌++◌, map, Vec, length, slice_get, slice_index, slice_index_or, Option, Some, None}
+use Rattle.std.specs.Prelude.{◌≡◌, ℕ, ◌+◌, ◌<◌, ◌≤◌, true, ◌⊎◌, List, [], ◌∷◌, ◌++◌, map, Vec, length, slice_get, slice_index, slice_index_or, Option, Some, None}
 use Rattle.std.specs.declared.alloc.Global.{Global}
 use Rattle.std.specs.List.{Contains}
 use Rattle.ff_types.specs.declared.cites.Cite.TheVariants.{Transitivity}
@@ -7,6 +7,9 @@ use Rattle.ff_types.specs.declared.cites.Listed.{Listed}
 use Rattle.ff_types.specs.Sheets.{Sheet}
 use Rattle.ff_types.specs.Cases.{IsConstraintOf}
 use Rattle.ff_cells.specs.declared.cell.Cell.{Cell}
+use Rattle.ff_types.specs.declared.limits.TheConstants.{MOST_CONSTRAINTS}
+use Rattle.ff_whole.specs.declared.places.Place.{Place}
+use Rattle.ff_trans.specs.declared.found.Found.{Found}
 use Rattle.ff_trans.specs.Triples.{HasThree, HasCite, AreInOrder}
 
 -- the cell at the place has the face
@@ -18,25 +21,17 @@ pub record HasFace (cells : List Cell) (i f : ℕ) : Type 0 where
 abbrev pub lists_in : List (Vec ℕ Global) → List (List ℕ)
 lists_in vs = map (λ v. v.items) vs
 
--- the cells at both places have the same faces
-abbrev pub HaveSameFaces : List Cell → ℕ → ℕ → Type 0
-HaveSameFaces cells i j = (c d : Cell) → slice_get cells i ≡ Some c → slice_get cells j ≡ Some d → c.faces ≡ d.faces
-
--- a cell before the one at the place has the same faces
-pub record IsRepeated (cells : List Cell) (i : ℕ) : Type 0 where
-  pub before : ℕ
-  pub cell : Cell
-  pub less : before < i
-  pub there : slice_get cells before ≡ Some cell
-  pub same : HaveSameFaces cells before i
-
--- of the first n cells some that have the face, in order: each that has it has the same faces as one of them, which
--- comes no later
+-- those of the first n cells that have the face, in order
 pub record AreCellsOf (cells : List Cell) (n f : ℕ) (list : List ℕ) : Type 0 where
   pub rising : (x y : ℕ) → x < y → y < length list → slice_index list x < slice_index list y
   pub each : (x : ℕ) → x < length list → (slice_index list x < n) × HasFace cells (slice_index list x) f
-  pub all : (i : ℕ) → i < n → HasFace cells i f
-      → (x : ℕ) × (x < length list) × (slice_index list x ≤ i) × HaveSameFaces cells (slice_index list x) i
+  pub all : (i : ℕ) → i < n → HasFace cells i f → (x : ℕ) × (x < length list) × (slice_index list x ≡ i)
+
+-- cells, in order, among which are those that have both faces
+pub record HoldBoth (cells : List Cell) (f h : ℕ) (list : List ℕ) : Type 0 where
+  pub rising : (x y : ℕ) → x < y → y < length list → slice_index list x < slice_index list y
+  pub within : (x : ℕ) → x < length list → slice_index list x < length cells
+  pub all : (i : ℕ) → HasFace cells i f → HasFace cells i h → (x : ℕ) × (x < length list) × (slice_index list x ≡ i)
 
 abbrev pub list_at : List (List ℕ) → ℕ → List ℕ
 list_at lists f = slice_index_or lists f []
@@ -59,18 +54,33 @@ row_at row k = slice_index_or row k None
 abbrev pub IsClear : List (Option ℕ) → Type 0
 IsClear row = (k : ℕ) → row_at row k ≡ None
 
--- those of the first n faces that had no cell have this one now
-pub record IsMarked (faces : List ℕ) (n cell : ℕ) (old new : List (Option ℕ)) : Type 0 where
+-- those of the faces from one place to before another that had no cell have this one now
+pub record IsMarked (faces : List ℕ) (from n cell : ℕ) (old new : List (Option ℕ)) : Type 0 where
   pub long : length new ≡ length old
   pub kept : (k x : ℕ) → row_at old k ≡ Some x → row_at new k ≡ Some x
-  pub marked : (j : ℕ) → j < n → row_at old (slice_index faces j) ≡ None → row_at new (slice_index faces j) ≡ Some cell
+  pub marked : (j : ℕ) → from ≤ j → j < n → row_at old (slice_index faces j) ≡ None → row_at new (slice_index faces j) ≡ Some cell
   pub only : (k : ℕ) → row_at old k ≡ None
-      → (row_at new k ≡ None) ⊎ ((row_at new k ≡ Some cell) × ((j : ℕ) × (j < n) × (slice_index faces j ≡ k)))
+      → (row_at new k ≡ None) ⊎ ((row_at new k ≡ Some cell) × ((j : ℕ) × (from ≤ j) × (j < n) × (slice_index faces j ≡ k)))
 
--- so it is with a cell that has the face h; another one marks nothing
-abbrev pub IsMarkedWith : List ℕ → ℕ → ℕ → List (Option ℕ) → List (Option ℕ) → Type 0
-IsMarkedWith faces h cell old new = (Contains faces h × IsMarked faces (length faces) cell old new)
+-- so it is with the faces behind h, if this is one of them; else nothing is marked
+abbrev pub IsMarkedAbove : List ℕ → ℕ → ℕ → List (Option ℕ) → List (Option ℕ) → Type 0
+IsMarkedAbove faces h cell old new =
+    ((p : ℕ) × (p < length faces) × (slice_index faces p ≡ h) × IsMarked faces (p + 1) (length faces) cell old new)
     ⊎ ((Contains faces h → ⊥) × (new ≡ old))
+
+-- so it is where f is one of them too
+abbrev pub IsMarkedWith : List ℕ → ℕ → ℕ → ℕ → List (Option ℕ) → List (Option ℕ) → Type 0
+IsMarkedWith faces f h cell old new = (Contains faces f × IsMarkedAbove faces h cell old new)
+    ⊎ ((Contains faces f → ⊥) × (new ≡ old))
+
+-- no face at `reach` or after has a cell
+pub record IsReach (row : List (Option ℕ)) (reach : ℕ) : Type 0 where
+  pub within : reach ≤ length row
+  pub none : (k : ℕ) → reach ≤ k → row_at row k ≡ None
+
+-- the rows are the same from there on
+abbrev pub AreSameFrom : ℕ → List (Option ℕ) → List (Option ℕ) → Type 0
+AreSameFrom from old new = (k : ℕ) → from ≤ k → row_at new k ≡ row_at old k
 
 -- the first of the first n cells of the list that has all three
 abbrev pub IsFirstOf : List Cell → List ℕ → ℕ → ℕ → ℕ → ℕ → Option ℕ → Type 0
@@ -78,18 +88,22 @@ IsFirstOf cells list n f h k None = (x : ℕ) → x < n → HasThree cells (slic
 IsFirstOf cells list n f h k (Some i) = ((x : ℕ) × (x < n) × (slice_index list x ≡ i)) × HasThree cells i f h k
     × ((x : ℕ) → x < n → slice_index list x < i → HasThree cells (slice_index list x) f h k → ⊥)
 
+-- so it is for each face above h
 pub record IsRowTo (cells : List Cell) (list : List ℕ) (n f h w : ℕ) (row : List (Option ℕ)) : Type 0 where
   pub long : length row ≡ w
-  pub each : (k : ℕ) → k < w → IsFirstOf cells list n f h k (row_at row k)
+  pub each : (k : ℕ) → h < k → k < w → IsFirstOf cells list n f h k (row_at row k)
+  pub low : (k : ℕ) → k ≤ h → row_at row k ≡ None
 
 -- the first of all cells
 abbrev pub IsFirst : List Cell → ℕ → ℕ → ℕ → Option ℕ → Type 0
 IsFirst cells f h k None = (i : ℕ) → HasThree cells i f h k → ⊥
 IsFirst cells f h k (Some i) = HasThree cells i f h k × ((j : ℕ) → j < i → HasThree cells j f h k → ⊥)
 
+-- for each face above h the first cell that has it and both f and h
 pub record IsRow (cells : List Cell) (f h w : ℕ) (row : List (Option ℕ)) : Type 0 where
   pub long : length row ≡ w
-  pub each : (k : ℕ) → k < w → IsFirst cells f h k (row_at row k)
+  pub each : (k : ℕ) → h < k → k < w → IsFirst cells f h k (row_at row k)
+  pub low : (k : ℕ) → k ≤ h → row_at row k ≡ None
 
 -- before the pair with the number n, or with it and a face below k
 abbrev pub IsPrior : ℕ → ℕ → ℕ → ℕ → Type 0
@@ -116,3 +130,22 @@ pub record IsListedTo (cells : List Cell) (pairs : List (ℕ × ℕ)) (n k : ℕ
   pub sorted : AreInOrder list
   pub all : (m f h third i : ℕ) → slice_get pairs m ≡ Some (f, h) → h < third → HasThree cells i f h third → IsPrior m third n k
       → HasCite list (0 ∷ f ∷ h ∷ third ∷ [])
+
+-- the triples found so far are all of them; they are listed, where they are kept
+pub record AreFoundTo (cells : List Cell) (pairs : List (ℕ × ℕ)) (n k : ℕ) (found : Found) : Type 0 where
+  pub list : List Listed
+  pub to : IsListedTo cells pairs n k list
+  pub count : found.count ≡ length list
+  pub kept : found.keeps ≡ true → found.list ≡ list
+  pub room : length list ≤ MOST_CONSTRAINTS
+
+-- an unkept triple counts, a kept one is listed too
+pub record IsTaken (x : Listed) (old new : Found) : Type 0 where
+  pub count : new.count ≡ old.count + 1
+  pub keeps : new.keeps ≡ old.keeps
+  pub listed : old.keeps ≡ true → new.list ≡ old.list ++ x ∷ []
+
+-- a constraint of these faces, with the corners of a cell
+pub record IsOfFaces (pairs : List (ℕ × ℕ)) (f h k : ℕ) (at : List Place) (x : Listed) : Type 0 where
+  pub cite : x.cite ≡ Transitivity f h k at
+  pub constraint : (g : Sheet) → IsConstraintOf g pairs x.cite x.constraint

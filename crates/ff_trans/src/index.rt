@@ -1,17 +1,13 @@
 //! For each face the cells that have it.
-ghost use Rattle.std.specs.Prelude.{◌≡◌, ℕ, ◌++◌, ◌∷◌, [], ◌<◌, length, replicate, slice_get, slice_index, slice_set, IfOk, IsTrue, Some};
+ghost use Rattle.std.specs.Prelude.{◌≡◌, ◌++◌, ◌∷◌, [], ◌<◌, length, replicate, slice_set, IfOk};
 ghost use Rattle.std.specs.List.{All};
 ghost use Rattle.std.specs.List.Sorted.{IsStrictlyIncreasing};
 ghost use Rattle.ff_cells.specs.FaceSets.{IsFaceList};
-ghost use Rattle.ff_cells.specs.declared.cell.Cell.{Cell as CellRow};
-ghost use Rattle.ff_trans.specs.Rows.{list_at, lists_in, IsPut, IsRepeated, AreIndexed};
+ghost use Rattle.ff_trans.specs.Rows.{list_at, lists_in, IsPut, AreIndexed};
 
 use ff_cells::Cell;
 use ff_tables::NoMemory;
 use std::alloc::Global;
-
-// How many of the cells that were put last for a face are compared with the next one.
-const LOOKED_BACK: usize = 64;
 
 fn empty_lists(alloc: Global, many: usize) -> Result<Vec<Vec<usize>>, NoMemory>
     ensures { IfOk result (λ lists. lists_in lists.items ≡ replicate many []) }
@@ -45,35 +41,7 @@ fn put_cell(lists: &mut [Vec<usize>], faces: &[u32], cell: usize) -> Result<(), 
     Ok(())
 }
 
-// Whether one of the last of these cells has these faces.
-fn is_among(list: &[usize], cells: &[Cell], faces: &[u32]) -> bool
-    requires { All (λ i. i < length cells.now) list.now }
-    ensures { IsTrue result → (x : ℕ) × (x < length list.now) × ((c : CellRow)
-        → slice_get cells.now (slice_index list.now x) ≡ Some c → c.faces ≡ faces.now) }
-{
-    for x in list.len().saturating_sub(LOOKED_BACK)..list.len() {
-        if cells[list[x]].faces.as_slice() == faces {
-            return true;
-        }
-    }
-    false
-}
-
-// Whether one of the cells that were put last for the cell's first face has the same faces.
-fn was_put(lists: &[Vec<usize>], cells: &[Cell], i: usize) -> bool
-    requires below { All (λ c. All (λ f. f < length lists.now) c.faces) cells.now }
-    requires within { i < length cells.now }
-    requires index { AreIndexed cells.now i (length lists.now) (lists_in lists.now) }
-    ensures { IsTrue result → IsRepeated cells.now i }
-{
-    let faces = cells[i].faces.as_slice();
-    if faces.is_empty() {
-        return false;
-    }
-    is_among(lists[faces[0] as usize].as_slice(), cells, faces)
-}
-
-// Puts each cell, unless it is seen that its faces were put.
+// Puts each cell.
 fn put_cells(lists: &mut [Vec<usize>], cells: &[Cell]) -> Result<(), NoMemory>
     requires cells { All IsFaceList cells.now }
     requires below { All (λ c. All (λ f. f < length lists.old) c.faces) cells.now }
@@ -81,15 +49,12 @@ fn put_cells(lists: &mut [Vec<usize>], cells: &[Cell]) -> Result<(), NoMemory>
     ensures { IfOk result (λ _. AreIndexed cells.now (length cells.now) (length lists.old) (lists_in lists.new)) }
 {
     for i in 0..cells.len() {
-        if was_put(lists, cells, i) {
-            continue;
-        }
         put_cell(lists, cells[i].faces.as_slice(), i)?;
     }
     Ok(())
 }
 
-/// For each face below `width` cells that have it, in order. A cell may be left out where one before it has the same faces.
+/// For each face below `width` the cells that have it, in order.
 pub fn index(alloc: Global, cells: &[Cell], width: usize) -> Result<Vec<Vec<usize>>, NoMemory>
     requires cells { All IsFaceList cells.now }
     requires below { All (λ c. All (λ f. f < width) c.faces) cells.now }

@@ -1,12 +1,12 @@
 //! The transitivity constraints of a folded sheet: which three faces have a common place.
 #![tactic(auto)]
 
+mod found;
 mod index;
 mod listed;
 mod marking;
 mod overlaps;
-#[cfg(test)]
-mod tests;
+mod taking;
 mod width;
 
 pub use overlaps::triples;

@@ -1,5 +1,5 @@
 //! The triples of faces that have a common place.
-ghost use Rattle.std.specs.Prelude.{◌≡◌, [], ◌<◌, ◌≤◌, ◌+◌, length, IfOk, IfErr, OnOk};
+ghost use Rattle.std.specs.Prelude.{◌≡◌, ◌<◌, ◌≤◌, ◌+◌, ℕ, List, length, IfOk, IfErr, OnOk};
 ghost use Rattle.std.specs.List.{All};
 ghost use Rattle.ff_types.specs.declared.limits.TheConstants.{MOST_FACES as most_faces};
 ghost use Rattle.ff_types.specs.Pairs.{pair_at};
@@ -7,11 +7,13 @@ ghost use Rattle.ff_cells.specs.FaceSets.{IsFaceList};
 ghost use Rattle.ff_pairs.specs.Together.{ArePairsOf};
 ghost use Rattle.ff_types.specs.declared.limits.TheConstants.{MOST_CONSTRAINTS as most_constraints};
 ghost use Rattle.ff_trans.specs.Triples.{AreTriples, AreNoTriples};
-ghost use Rattle.ff_trans.specs.Rows.{IsFirst, IsRow, AreCellsOf, AreIndexed, lists_in, IsListedTo};
+ghost use Rattle.ff_cells.specs.declared.cell.Cell.{Cell as CellRow};
+ghost use Rattle.ff_trans.specs.Rows.{IsFirst, IsRow, HoldBoth, AreIndexed, lists_in, IsClear, IsReach, AreFoundTo};
 
+use crate::found::Found;
 use crate::index::index;
-use crate::listed::listed;
 use crate::marking::mark_row;
+use crate::taking::take;
 use crate::width::width;
 use ff_cells::Cell;
 use ff_listed::Listing;
@@ -19,9 +21,9 @@ use ff_tables::{Items, NoMemory};
 use ff_types::{No, Pairs};
 use std::alloc::Global;
 
-// Appends the triple of the pair with the number `n` and the face `k`, if they share a cell.
-fn append_triple(
-    list: &mut Listing,
+// Takes the triple of the pair with the number `n` and the face `k`, if they share a cell.
+fn take_triple(
+    found: &mut Found,
     cells: &[Cell],
     pairs: &Pairs,
     n: u32,
@@ -31,121 +33,173 @@ fn append_triple(
     requires pairs { ArePairsOf cells.now pairs.now }
     requires pair { n < length pairs.now }
     requires above { (pair_at pairs.now n).1 < k }
-    requires found { IsFirst cells.now (pair_at pairs.now n).0 (pair_at pairs.now n).1 k cell }
-    requires listed { IsListedTo cells.now pairs.now n k list.old }
-    requires room { length list.old ≤ most_constraints }
-    ensures listed { OnOk result (IsListedTo cells.now pairs.now n (k + 1) list.new) }
-    ensures room { OnOk result (length list.new ≤ most_constraints) }
+    requires first { IsFirst cells.now (pair_at pairs.now n).0 (pair_at pairs.now n).1 k cell }
+    requires found { AreFoundTo cells.now pairs.now n k found.old }
+    ensures found { OnOk result (AreFoundTo cells.now pairs.now n (k + 1) found.new) }
+    ensures keeps { OnOk result (found.new.keeps ≡ found.old.keeps) }
     ensures refused { IfErr result (AreNoTriples cells.now pairs.now) }
 {
     let (f, h) = pairs.faces(n);
     match cell {
-        Some(i) => list.append(listed(pairs, f, h, k, &cells[i])),
+        Some(i) => take(found, pairs, f, h, k, &cells[i]),
         None => Ok(()),
     }
 }
 
-// Appends the triples of the pair with the number `n` and the faces above it.
-fn append_row(
-    list: &mut Listing,
+// Takes the triples of the pair with the number `n` and the faces above it, and clears their row.
+fn take_row(
+    found: &mut Found,
     cells: &[Cell],
     pairs: &Pairs,
     n: u32,
-    row: &[Option<usize>],
+    row: &mut [Option<usize>],
+    reach: usize,
 ) -> Result<(), No>
-    requires few { length row.now ≤ most_faces }
-    requires below { All (λ c. All (λ f. f < length row.now) c.faces) cells.now }
+    requires few { length row.old ≤ most_faces }
+    requires below { All (λ c. All (λ f. f < length row.old) c.faces) cells.now }
     requires pairs { ArePairsOf cells.now pairs.now }
     requires pair { n < length pairs.now }
-    requires found { IsRow cells.now (pair_at pairs.now n).0 (pair_at pairs.now n).1 (length row.now) row.now }
-    requires listed { IsListedTo cells.now pairs.now n 0 list.old }
-    requires room { length list.old ≤ most_constraints }
-    ensures listed { OnOk result (IsListedTo cells.now pairs.now (n + 1) 0 list.new) }
-    ensures room { OnOk result (length list.new ≤ most_constraints) }
+    requires row { IsRow cells.now (pair_at pairs.now n).0 (pair_at pairs.now n).1 (length row.old) row.old }
+    requires reach { IsReach row.old reach }
+    requires found { AreFoundTo cells.now pairs.now n 0 found.old }
+    ensures found { OnOk result (AreFoundTo cells.now pairs.now (n + 1) 0 found.new) }
+    ensures keeps { OnOk result (found.new.keeps ≡ found.old.keeps) }
+    ensures long { OnOk result (length row.new ≡ length row.old) }
+    ensures clear { OnOk result (IsClear row.new) }
     ensures refused { IfErr result (AreNoTriples cells.now pairs.now) }
 {
     let (_f, h) = pairs.faces(n);
-    for k in h + 1..row.len() as u32 {
-        append_triple(list, cells, pairs, n, k, row[k as usize])?;
+    for k in h + 1..reach as u32 {
+        let cell = row[k as usize];
+        row[k as usize] = None;
+        take_triple(found, cells, pairs, n, k, cell)?;
     }
     Ok(())
 }
 
-// For each face below `width` the first cell that has it and both `f` and `h`, where `of_f` are the cells of `f`.
-fn row_of(
-    alloc: Global,
-    cells: &[Cell],
-    of_f: &[usize],
-    width: usize,
-    f: u32,
-    h: u32,
-) -> Result<Vec<Option<usize>>, NoMemory>
-    requires below { All (λ c. All (λ f. f < width) c.faces) cells.now }
-    requires cells_of { AreCellsOf cells.now (length cells.now) f of_f.now }
-    ensures { IfOk result (λ row. IsRow cells.now f h width row.items) }
+// The cells of one of the two faces, of the one that has fewer.
+fn shorter(lists: &[Vec<usize>], f: u32, h: u32) -> &[usize]
+    requires first { f < length lists.now }
+    requires second { h < length lists.now }
+    ensures { (cells : List CellRow) → AreIndexed cells (length cells) (length lists.now) (lists_in lists.now) → HoldBoth cells f h result.now }
 {
-    let mut row = vec![in alloc; None; width]?;
-    mark_row(row.as_mut_slice(), cells, of_f, f, h);
-    Ok(row)
+    if lists[f as usize].len() < lists[h as usize].len() {
+        lists[f as usize].as_slice()
+    } else {
+        lists[h as usize].as_slice()
+    }
 }
 
-// Appends the triples of the pair with the number `n`.
-fn append_pair(
-    alloc: Global,
-    list: &mut Listing,
+// Takes the triples of the pair with the number `n`.
+fn take_pair(
+    found: &mut Found,
     cells: &[Cell],
     pairs: &Pairs,
     lists: &[Vec<usize>],
     n: u32,
+    row: &mut [Option<usize>],
 ) -> Result<(), No>
-    requires few { length lists.now ≤ most_faces }
-    requires below { All (λ c. All (λ f. f < length lists.now) c.faces) cells.now }
+    requires few { length row.old ≤ most_faces }
+    requires wide { length lists.now ≡ length row.old }
+    requires lists { All IsFaceList cells.now }
+    requires below { All (λ c. All (λ f. f < length row.old) c.faces) cells.now }
     requires pairs { ArePairsOf cells.now pairs.now }
     requires pair { n < length pairs.now }
     requires index { AreIndexed cells.now (length cells.now) (length lists.now) (lists_in lists.now) }
-    requires listed { IsListedTo cells.now pairs.now n 0 list.old }
-    requires room { length list.old ≤ most_constraints }
-    ensures listed { OnOk result (IsListedTo cells.now pairs.now (n + 1) 0 list.new) }
-    ensures room { OnOk result (length list.new ≤ most_constraints) }
+    requires clear { IsClear row.old }
+    requires found { AreFoundTo cells.now pairs.now n 0 found.old }
+    ensures found { OnOk result (AreFoundTo cells.now pairs.now (n + 1) 0 found.new) }
+    ensures keeps { OnOk result (found.new.keeps ≡ found.old.keeps) }
+    ensures long { OnOk result (length row.new ≡ length row.old) }
+    ensures clear { OnOk result (IsClear row.new) }
     ensures refused { IfErr result (AreNoTriples cells.now pairs.now) }
 {
     let (f, h) = pairs.faces(n);
-    let row = row_of(
-        alloc,
-        cells,
-        lists[f as usize].as_slice(),
-        lists.len(),
-        f,
-        h,
-    )?;
-    append_row(list, cells, pairs, n, row.as_slice())
+    let reach = mark_row(row, cells, shorter(lists, f, h), f, h);
+    take_row(found, cells, pairs, n, row, reach)
 }
 
-fn append_pairs(
-    alloc: Global,
-    list: &mut Listing,
+// Takes the triples of all pairs.
+fn take_pairs(
+    found: &mut Found,
     cells: &[Cell],
     pairs: &Pairs,
     lists: &[Vec<usize>],
+    row: &mut [Option<usize>],
 ) -> Result<(), No>
-    requires few { length lists.now ≤ most_faces }
-    requires below { All (λ c. All (λ f. f < length lists.now) c.faces) cells.now }
+    requires few { length row.old ≤ most_faces }
+    requires wide { length lists.now ≡ length row.old }
+    requires lists { All IsFaceList cells.now }
+    requires below { All (λ c. All (λ f. f < length row.old) c.faces) cells.now }
     requires pairs { ArePairsOf cells.now pairs.now }
     requires index { AreIndexed cells.now (length cells.now) (length lists.now) (lists_in lists.now) }
-    requires none { list.old ≡ [] }
-    ensures listed { OnOk result (IsListedTo cells.now pairs.now (length pairs.now) 0 list.new) }
-    ensures room { OnOk result (length list.new ≤ most_constraints) }
+    requires clear { IsClear row.old }
+    requires found { AreFoundTo cells.now pairs.now 0 0 found.old }
+    ensures found { OnOk result (AreFoundTo cells.now pairs.now (length pairs.now) 0 found.new) }
+    ensures keeps { OnOk result (found.new.keeps ≡ found.old.keeps) }
+    ensures long { OnOk result (length row.new ≡ length row.old) }
+    ensures clear { OnOk result (IsClear row.new) }
     ensures refused { IfErr result (AreNoTriples cells.now pairs.now) }
 {
     for n in 0..pairs.count() as u32 {
-        append_pair(alloc, list, cells, pairs, lists, n)?;
+        take_pair(found, cells, pairs, lists, n, row)?;
     }
     Ok(())
+}
+
+// No triples are found yet.
+fn nothing(alloc: Global, keeps: bool) -> Found
+    ensures keeps { result.keeps ≡ keeps }
+    ensures none { (cells : List CellRow) (pairs : List (ℕ × ℕ)) → AreFoundTo cells pairs 0 0 result }
+{
+    Found {
+        list: Listing::new(alloc),
+        count: 0,
+        keeps,
+    }
+}
+
+// No face has a cell.
+fn clear_row(alloc: Global, width: usize) -> Result<Vec<Option<usize>>, NoMemory>
+    ensures long { IfOk result (λ row. length row.items ≡ width) }
+    ensures clear { IfOk result (λ row. IsClear row.items) }
+{
+    Ok(vec![in alloc; None; width]?)
+}
+
+// The triples of all pairs, counted first and then listed.
+fn listed_triples(alloc: Global, cells: &[Cell], pairs: &Pairs) -> Result<Listing, No>
+    requires cells { All IsFaceList cells.now }
+    requires pairs { ArePairsOf cells.now pairs.now }
+    ensures made { IfOk result (AreTriples cells.now pairs.now) }
+    ensures few { IfOk result (λ list. length list ≤ most_constraints) }
+    ensures refused { IfErr result (AreNoTriples cells.now pairs.now) }
+{
+    let lists = index(alloc, cells, width(cells))?;
+    let mut row = clear_row(alloc, lists.len())?;
+    let mut counted = nothing(alloc, false);
+    take_pairs(
+        &mut counted,
+        cells,
+        pairs,
+        lists.as_slice(),
+        row.as_mut_slice(),
+    )?;
+    let mut listed = nothing(alloc, true);
+    take_pairs(
+        &mut listed,
+        cells,
+        pairs,
+        lists.as_slice(),
+        row.as_mut_slice(),
+    )?;
+    Ok(listed.list)
 }
 
 /// The transitivity constraints: of each three faces that stand together in one of the cells, in order, with the corners
 /// of the first such cell. Where these are the cells of a folded pattern, they are those of each three faces with a common
-/// place. `pairs` are the pairs of these cells. Refused exactly where there are more than `MOST_CONSTRAINTS`.
+/// place. `pairs` are the pairs of these cells. Refused exactly where there are more than `MOST_CONSTRAINTS`, before any is
+/// made.
 pub fn triples(alloc: Global, cells: &Items<Cell>, pairs: &Pairs) -> Result<Listing, No>
     requires cells { All IsFaceList cells.now }
     requires pairs { ArePairsOf cells.now pairs.now }
@@ -153,8 +207,5 @@ pub fn triples(alloc: Global, cells: &Items<Cell>, pairs: &Pairs) -> Result<List
     ensures few { IfOk result (λ list. length list ≤ most_constraints) }
     ensures refused { IfErr result (AreNoTriples cells.now pairs.now) }
 {
-    let lists = index(alloc, cells.as_slice(), width(cells.as_slice()))?;
-    let mut list = Listing::new(alloc);
-    append_pairs(alloc, &mut list, cells.as_slice(), pairs, lists.as_slice())?;
-    Ok(list)
+    listed_triples(alloc, cells.as_slice(), pairs)
 }

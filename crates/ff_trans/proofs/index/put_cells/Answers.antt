@@ -1,9 +1,9 @@
-use Rattle.std.proofs.Common.{◌≡◌, ◌∙◌, refl, sym, ap, subst, length, Some, slice_get}
+use Rattle.std.proofs.Common.{◌≡◌, ◌∙◌, sym, ap, subst, length, Some, slice_get}
 use Rattle.std.specs.List.Sorted.{IsStrictlyIncreasing}
 use Rattle.std.proofs.lemmas.Option.{slice_get-get_or}
 use Rattle.ff_cells.specs.declared.cell.Cell.{Cell}
 use Rattle.ff_trans.specs.Rows.{lists_in, IsPut}
-use Rattle.ff_trans.proofs.Indexes.{index_more, index_again}
+use Rattle.ff_trans.proofs.Indexes.{index_more}
 use Rattle.ff_trans.proofs.index.put_cells.Goals as goal
 
 pub put_cell-requires-clause-rising : goal.put_cell-requires-clause-rising
@@ -17,6 +17,3 @@ loop-i-preserved c =
     let same = c.as_slice.ensures ∙ ap (λ (z : Cell). z.faces) (sym c.index-cells-i.is) in
     index_more cells i (length c.args.lists.now) cell (lists_in c.loop-i.lists) (lists_in c.put_cell.new.lists) at c.loop-i.invariant
     (subst (λ xs. IsPut xs (length xs) i (lists_in c.loop-i.lists) (lists_in c.put_cell.new.lists)) same c.in_ok-put_cell.ensures)
-
-pub loop-i-preserved-then-was_put : goal.loop-i-preserved-then-was_put
-loop-i-preserved-then-was_put c = index_again c.args.cells.now c.loop-i.i (length c.args.lists.now) (lists_in c.loop-i.lists) (c.if-was_put.ensures refl) c.loop-i.invariant

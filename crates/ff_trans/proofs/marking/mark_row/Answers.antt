@@ -1,19 +1,34 @@
-use Rattle.std.proofs.Common.{◌≡◌, sym, ap, subst, ◌∙◌, length, slice_index, slice_get, Some}
-use Rattle.std.proofs.lemmas.Option.{slice_get-get_or, slice_get_within}
+use Rattle.std.proofs.Common.{◌≡◌, sym, ap, subst, ◌∙◌, length, slice_index, slice_get, Some, arith}
+use Rattle.std.specs.List.Sorted.{IsStrictlyIncreasing}
+use Rattle.std.proofs.lemmas.Option.{slice_get-get_or}
 use Rattle.ff_cells.specs.declared.cell.Cell.{Cell}
 use Rattle.ff_trans.specs.Rows.{IsMarkedWith}
-use Rattle.ff_trans.proofs.Marks.{row_next, row_done}
+use Rattle.ff_trans.proofs.Marks.{row_next, row_done, reach_more}
 use Rattle.ff_trans.proofs.marking.mark_row.Goals as goal
+
+pub mark_cell-past-requires-clause-rising : goal.mark_cell-past-requires-clause-rising
+mark_cell-past-requires-clause-rising c = subst IsStrictlyIncreasing (sym c.as_slice.ensures)
+    (c.requires.lists (slice_index c.args.list.now c.loop-x.x) c.index-cells-list.result (c.requires.both.within c.loop-x.x c.loop-x-test.true)).rising
 
 pub loop-x-preserved : goal.loop-x-preserved
 loop-x-preserved c =
-    let cells = c.args.cells.now in let list = c.args.of_f.now in let x = c.loop-x.x in
-    let cell = c.index-cells-of_f.result in
-    let known = (c.requires.cells_of.each x c.loop-x-test.true).1 in
-    let at : slice_get cells (slice_index list x) ≡ Some cell = slice_get-get_or cells (slice_index list x) cell (slice_get_within cells (slice_index list x) known.cell known.there) ∙ ap Some (sym c.index-cells-of_f.is) in
-    let same = c.as_slice.ensures ∙ ap (λ (z : Cell). z.faces) (sym c.index-cells-of_f.is) in
-    row_next cells list c.args.f c.args.h (length c.args.row.now) c.requires.cells_of x cell c.loop-x-test.true at c.loop-x.row c.mark_cell.new.row
-    (subst (λ xs. IsMarkedWith xs c.args.h (slice_index list x) c.loop-x.row c.mark_cell.new.row) same c.mark_cell.ensures) c.loop-x.invariant
+    let cells = c.args.cells.now in let list = c.args.list.now in let x = c.loop-x.x in
+    let cell = c.index-cells-list.result in
+    let within = c.requires.both.within x c.loop-x-test.true in
+    let at : slice_get cells (slice_index list x) ≡ Some cell = slice_get-get_or cells (slice_index list x) cell within ∙ ap Some (sym c.index-cells-list.is) in
+    let same = c.as_slice.ensures ∙ ap (λ (z : Cell). z.faces) (sym c.index-cells-list.is) in
+    let up = subst IsStrictlyIncreasing (ap (λ (z : Cell). z.faces) (sym c.index-cells-list.is)) (c.requires.lists (slice_index list x) cell within).rising in
+    let marks = subst (λ xs. IsMarkedWith xs c.args.f c.args.h (slice_index list x) c.loop-x.row c.mark_cell-past.new.row) same c.mark_cell-past.ensures.marked in
+    let next = row_next cells list c.args.f c.args.h (length c.args.row.now) c.requires.both x cell c.loop-x-test.true at c.loop-x.row c.mark_cell-past.new.row up marks c.loop-x.invariant.row in
+    let long : length c.mark_cell-past.new.row ≡ length c.loop-x.row = next.long ∙ sym c.loop-x.invariant.row.long in
+    let most = c.max-reach.ensures in
+    let far = c.loop-x.invariant.reach.within in
+    let past = c.mark_cell-past.ensures.within in
+    record {
+      row = next;
+      reach = reach_more c.loop-x.row c.mark_cell-past.new.row c.loop-x.reach c.mark_cell-past.result c.max-reach.result long c.loop-x.invariant.reach past c.mark_cell-past.ensures.past
+          (grind (arith, most)) (grind (arith, most)) (grind (arith, most, far, past));
+    }
 
-pub returns : goal.returns
-returns c = row_done c.args.cells.now c.args.of_f.now c.args.f c.args.h (length c.args.row.now) c.requires.cells_of c.loop-x.x c.loop-x.row c.loop-x-test.false c.loop-x.invariant
+pub returns-clause-row : goal.returns-clause-row
+returns-clause-row c = row_done c.args.cells.now c.args.list.now c.args.f c.args.h (length c.args.row.now) c.requires.both c.loop-x.x c.loop-x.row c.loop-x-test.false c.loop-x.invariant.row

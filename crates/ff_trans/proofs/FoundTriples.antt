@@ -1,6 +1,12 @@
 -- The triples that were found are those of each sheet whose face sets the cells have.
-use Rattle.std.proofs.Common.{◌≡◌, ℕ, ◌+◌, ◌<◌, ◌≤◌, inl, refl, sym, ap, ◌∙◌, subst, arith, Bool, true, false, ◌&&◌, IsTrue, List, [], ◌∷◌, ◌++◌, length, get_or, slice_get, Some}
+use Rattle.std.proofs.Common.{◌≡◌, ℕ, zero, suc, ◌+◌, ◌<◌, ◌≤◌, nat_lt, Result, Ok, Err, OnOk, inl, refl, sym, ap, ◌∙◌, subst, arith, Bool, true, false, ◌&&◌, IsTrue, List, [], ◌∷◌, ◌++◌, length, get_or, slice_get, Option, Some, None, ◌⊎◌, inr}
 use Rattle.std.specs.List.{All, Contains, list_all}
+use Rattle.std.proofs.lemmas.Bool.Decides.{nat_tests}
+use Rattle.ff_tables.specs.declared.terms.Term.{Term}
+use Rattle.ff_tables.specs.Orders.{term_at}
+use Rattle.ff_types.specs.Terms.{kind_of}
+use Rattle.ff_types.specs.declared.limits.TheConstants.{MOST_CONSTRAINTS}
+use Rattle.ff_types.proofs.SortedPairs.{number_there}
 use Rattle.std.proofs.lemmas.Bool.{ltb-true, false≢true}
 use Rattle.std.proofs.lemmas.List.{length_push}
 use Rattle.std.proofs.lemmas.Option.{slice_get_within, slice_get-get_or, get_or_from_slice_get}
@@ -14,7 +20,7 @@ use Rattle.ff_types.specs.Sheets.{Sheet, faces_of, is_face}
 use Rattle.ff_types.specs.Inside.{is_inside, over, HaveCommon}
 use Rattle.ff_types.specs.Witnesses.{IsWitness, witness_face}
 use Rattle.ff_types.specs.Cites.{Holds, Witnessed, HasSmallPlaces}
-use Rattle.ff_types.specs.Cases.{IsConstraintOf}
+use Rattle.ff_types.specs.Cases.{IsTermOf, IsConstraintOf}
 use Rattle.ff_types.proofs.Computing.{both}
 use Rattle.ff_types.proofs.Memberships.{no_member, by_member, in_filter, filter_in, range_in}
 use Rattle.ff_cells.specs.declared.cell.Cell.{Cell}
@@ -22,9 +28,10 @@ use Rattle.ff_cells.specs.FaceSets.{HaveFaceSets}
 use Rattle.ff_pairs.specs.Together.{AreTogether, ArePairsOf}
 use Rattle.ff_listed.specs.Splitting.{IsFull}
 use Rattle.ff_trans.specs.Triples.{HasThree, HasCite, IsTriple, AreSomeTriples, AreWitnessed, AreTriples, AreNoTriples}
-use Rattle.ff_types.specs.Pairs.{pair_at}
-use Rattle.ff_trans.specs.Rows.{IsListedBefore, IsListedTo, IsFirst}
-use Rattle.ff_trans.proofs.Lists.{row_takes}
+use Rattle.ff_types.specs.Pairs.{AreSorted, pair_at}
+use Rattle.ff_trans.specs.Rows.{IsListedBefore, IsListedTo, IsFirst, IsOfFaces, IsTaken, AreFoundTo, IsRow, IsReach}
+use Rattle.ff_trans.specs.declared.found.Found.{Found}
+use Rattle.ff_trans.proofs.Lists.{pair_there, row_takes, row_begins, row_skips, row_ends}
 
 -- ---- tests of members
 
@@ -170,3 +177,78 @@ one_more cells pairs are n k list x p e within above i c read found cite constra
   where
     same : c ≡ found.0.cell
     same = read ∙ get_or_from_slice_get cells i found.0.cell c found.0.there
+
+-- ---- constraints that are counted and not made
+
+untaken : (f h : ℕ) → f < h → false ≡ nat_lt h f
+untaken f h lt = grind (arith, nat_tests, lt)
+
+term_of : (pairs : List (ℕ × ℕ)) → AreSorted pairs → (f h : ℕ) → f < h → (n : ℕ) × (slice_get pairs n ≡ Some (f, h)) → (t : Term) × IsTermOf pairs (f, h) t
+term_of pairs sorted f h lt (n, e) = (record { var = n; flipped = false }, record { variable = number_there pairs n (f, h) sorted e; turned = untaken f h lt })
+
+-- each three faces in order of which each two overlap have a constraint
+pub some_constraint : (pairs : List (ℕ × ℕ)) → AreSorted pairs → (f h k : ℕ) (at : List Place) → f < h → h < k → (n : ℕ) × (slice_get pairs n ≡ Some (f, h))
+    → (n : ℕ) × (slice_get pairs n ≡ Some (f, k)) → (n : ℕ) × (slice_get pairs n ≡ Some (h, k)) → (x : Listed) × IsOfFaces pairs f h k at x
+some_constraint pairs sorted f h k at low high one two three =
+    let a = term_of pairs sorted f h low one in
+    let b = term_of pairs sorted f k (omega (arith, low, high)) two in
+    let c = term_of pairs sorted h k high three in (
+      record { constraint = record { kind = kind_of (Transitivity f h k at); terms = a.0 ∷ b.0 ∷ c.0 ∷ [] }; cite = Transitivity f h k at },
+      record { cite = refl; constraint = λ g. record { kind = refl; counted = refl; terms = each g a b c } },
+    ) where
+      each : (g : Sheet) (a : (t : Term) × IsTermOf pairs (f, h) t) (b : (t : Term) × IsTermOf pairs (f, k) t) (c : (t : Term) × IsTermOf pairs (h, k) t) → (j : ℕ) → j < 3
+          → IsTermOf pairs (get_or ((f, h) ∷ (f, k) ∷ (h, k) ∷ []) j (0, 0)) (term_at (a.0 ∷ b.0 ∷ c.0 ∷ []) j)
+      each g a b c zero l = a.1
+      each g a b c (suc zero) l = b.1
+      each g a b c (suc (suc zero)) l = c.1
+      each g a b c (suc (suc (suc j))) l = absurd (omega (arith, l))
+
+pub on_both : {A E : Type 0} (r : Result A E) {P Q R : Type 0} → OnOk r P → OnOk r Q → (P → Q → R) → OnOk r R
+on_both (Ok v) p q f = f p q
+on_both (Err e) p q f = tt
+
+-- one triple is taken
+module _ (cells : List Cell) (pairs : List (ℕ × ℕ)) (are : ArePairsOf cells pairs) (n k : ℕ) (old : Found) (p : ℕ × ℕ) (e : slice_get pairs n ≡ Some p) (within : n < length pairs)
+    (above : (pair_at pairs n).1 < k) (i : ℕ) (c : Cell) (read : c ≡ get_or cells i c) (found : IsFirst cells (pair_at pairs n).0 (pair_at pairs n).1 k (Some i)) (so : AreFoundTo cells pairs n k old) where
+  pub taken_to : (new : Found) → (x : Listed) × IsOfFaces pairs p.0 p.1 k c.at x × IsTaken x old new → new.count ≤ MOST_CONSTRAINTS → AreFoundTo cells pairs n (k + 1) new
+  taken_to new (x, of, took) room =
+      let long = length_push so.list x in
+      let counted = took.count in
+      let before = so.count in
+      record {
+        list = so.list ++ x ∷ [];
+        to = one_more cells pairs are n k so.list x p e within above i c read found of.cite of.constraint so.to;
+        count = omega (arith, long, counted, before);
+        kept = λ t. took.listed (sym took.keeps ∙ t) ∙ ap (λ xs. xs ++ x ∷ []) (so.kept (sym took.keeps ∙ t));
+        room = omega (arith, long, counted, before, room);
+      }
+
+  pub too_many_taken : (why : No) → IsFull old.count why → AreNoTriples cells pairs why
+  too_many_taken why full =
+      let there = pair_there pairs n within in
+      let low = are.sorted.rising n (pair_at pairs n) there in
+      let x = some_constraint pairs are.sorted (pair_at pairs n).0 (pair_at pairs n).1 k c.at low above (n, there)
+      (first_third cells pairs are i (pair_at pairs n).0 (pair_at pairs n).1 k (omega (arith, low, above)) found.0) (second_third cells pairs are i (pair_at pairs n).0 (pair_at pairs n).1 k above found.0) in
+      too_many cells pairs are n (k + 1) so.list x.0 (one_more cells pairs are n k so.list x.0 (pair_at pairs n) there within above i c read found x.1.cite x.1.constraint so.to) why
+      (subst (λ m. IsFull m why) so.count full)
+
+-- a pair's row begins, and ends
+module _ (cells : List Cell) (pairs : List (ℕ × ℕ)) (n : ℕ) where
+  pub found_begins : (found : Found) → AreFoundTo cells pairs n 0 found → AreFoundTo cells pairs n ((pair_at pairs n).1 + 1) found
+  found_begins found so = record { list = so.list; to = row_begins cells pairs n so.list so.to; count = so.count; kept = so.kept; room = so.room }
+
+  pub found_skips : (k : ℕ) (found : Found) → IsFirst cells (pair_at pairs n).0 (pair_at pairs n).1 k None → AreFoundTo cells pairs n k found → AreFoundTo cells pairs n (k + 1) found
+  found_skips k found none so = record { list = so.list; to = row_skips cells pairs n k so.list none so.to; count = so.count; kept = so.kept; room = so.room }
+
+  pub found_ends : (k : ℕ) (found : Found) → ((i third : ℕ) → HasThree cells i (pair_at pairs n).0 (pair_at pairs n).1 third → third < k) → AreFoundTo cells pairs n k found → AreFoundTo cells pairs (n + 1) 0 found
+  found_ends k found last so = record { list = so.list; to = row_ends cells pairs n k so.list last so.to; count = so.count; kept = so.kept; room = so.room }
+
+-- no face at the end of the row or after shares a cell with both
+pub third_before : (cells : List Cell) (f h w k reach : ℕ) (row : List (Option ℕ)) → IsRow cells f h w row → IsReach row reach → h < k → reach ≤ k
+    → ((i third : ℕ) → HasThree cells i f h third → third < w) → (i third : ℕ) → HasThree cells i f h third → third < k
+third_before cells f h w k reach row r at above far below i third three = elim (either third k) [
+  | inl l ↦ l
+  | inr le ↦ absurd (subst (IsFirst cells f h third) (at.none third (omega (arith, far, le))) (r.each third (omega (arith, above, le)) (below i third three)) i three)
+] where
+  either : (a b : ℕ) → (a < b) ⊎ (b ≤ a)
+  either a b = grind arith

@@ -1,0 +1,10 @@
+//! The triples found so far.
+use ff_listed::Listing;
+
+// How many triples were found. They are listed only where they are kept.
+#[derive(Drop)]
+pub struct Found {
+    pub list: Listing,
+    pub count: usize,
+    pub keeps: bool,
+}
