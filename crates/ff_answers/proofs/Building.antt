@@ -17,8 +17,8 @@ use Rattle.ff_types.specs.Cases.{start_of, IsConstraintOf, IsCaseOf}
 use Rattle.ff_types.specs.FoldedPatterns.{IsFoldedPattern}
 use Rattle.ff_borders.proofs.Witnesses.{witnessed_hold}
 use Rattle.ff_cases.proofs.Truth.{at_place}
-use Rattle.ff_layered.specs.Layers.{AreAllPairs, AreAllCites}
-use Rattle.ff_layered.proofs.Constraints.{some_constraints}
+use Rattle.ff_answers.specs.Layers.{AreAllPairs, AreAllCites}
+use Rattle.ff_answers.proofs.Constraints.{some_constraints}
 use Rattle.ff_problem.proofs.Assembly.{is_fit}
 use Rattle.ff_problem.proofs.CreaseStarts.{starts_fit, by_creases, starts_rise}
 

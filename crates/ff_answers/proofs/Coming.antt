@@ -20,10 +20,10 @@ use Rattle.ff_cases.proofs.Truth.{cases_are_true}
 use Rattle.ff_cells.specs.declared.limits.TheConstants.{MOST_CELLS, MOST_ENTRIES}
 use Rattle.ff_cells.specs.SlabCells.{AreOneEach, entries, HasFewCells}
 use Rattle.ff_pairs.specs.declared.limits.TheConstants.{MOST_PAIRS}
-use Rattle.ff_layered.specs.Layers.{AreAllPairs, AreAllCites}
-use Rattle.ff_layered.proofs.Cells.{some_cells}
-use Rattle.ff_layered.proofs.Pairs.{some_pairs}
-use Rattle.ff_layered.proofs.Cites.{some_cites}
+use Rattle.ff_answers.specs.Layers.{AreAllPairs, AreAllCites}
+use Rattle.ff_answers.proofs.Cells.{some_cells}
+use Rattle.ff_answers.proofs.Pairs.{some_pairs}
+use Rattle.ff_answers.proofs.Cites.{some_cites}
 use Rattle.ff_problem.specs.Limits.{HasManyPairs, RefusesCase}
 use Rattle.ff_problem.specs.Problems.{IsProblem}
 use Rattle.ff_problem.proofs.Counts.{no_more_pairs, no_more_constraints}

@@ -1,3 +1,16 @@
-pub mod Reports
-pub mod Building
-pub mod Coming
+mod Reports
+mod Building
+mod Coming
+mod Deciding
+mod Closures
+mod Classes
+mod Ending
+mod Finite
+mod Signs
+mod Ranks
+mod Cells
+mod Pairs
+mod Keys
+mod Places
+mod Cites
+mod Constraints

@@ -15,9 +15,9 @@ use Rattle.ff_propagate.specs.Solutions.{solutions_of}
 use Rattle.ff_parts.specs.Lists.{vars_of}
 use Rattle.ff_report.specs.declared.parts.PartOutcome.{PartOutcome}
 use Rattle.ff_report.specs.declared.parts.PartOutcome.TheVariants as outcome
-use Rattle.ff_ends.specs.Ends.{HasEnds}
-use Rattle.ff_ends.proofs.Deciding.{either_way}
-use Rattle.ff_ends.proofs.Ending.{each_system_ends}
+use Rattle.ff_answers.specs.Ends.{HasEnds}
+use Rattle.ff_answers.proofs.Deciding.{either_way}
+use Rattle.ff_answers.proofs.Ending.{each_system_ends}
 use Rattle.ff_solve.specs.declared.texts.Last.{Last}
 use Rattle.ff_solve.specs.declared.texts.Last.TheVariants as last
 use Rattle.ff_solve.specs.Lines.{last_of, board_text, clash_report}

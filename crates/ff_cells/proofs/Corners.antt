@@ -14,7 +14,7 @@ use Rattle.ff_cells.specs.Gap.{run, spot, gap}
 use Rattle.ff_cells.specs.Sheet.{IsOver, Spans, AreFaceBars, IsSlab, IsUnder, IsCut, IsOpen, IsGapOf, IsSite, IsCorners, IsWitness, total}
 use Rattle.ff_cells.proofs.Gaps.{gap-height, gap-inside, gap-same_x, over_lower, under_upper, not_under_lower, not_over_upper, run_e}
 use Rattle.ff_cells.proofs.Between.{Spanned, between_closed}
-use Rattle.ff_cells.proofs.Cuts.{off_ends_at, over_of_spans, spans_of_over, run-sum, run-opposite, run-trans_first, run-trans_last}
+use Rattle.ff_cells.proofs.Cuts.{off_answers_at, over_of_spans, spans_of_over, run-sum, run-opposite, run-trans_first, run-trans_last}
 
 pub run-trans : (p q r : Place) → pos 0 <ℤ p.w → pos 0 <ℤ q.w → pos 0 <ℤ r.w → pos 0 ≤ℤ run p q
     → pos 0 ≤ℤ run q r → pos 0 ≤ℤ run p r
@@ -261,7 +261,7 @@ module _ {Has Low High : Bar → Type 0} {left right : Place} {k l : Bar} (slab 
     module _ {Step : ℕ → Line → Type 0} (sheet : AreFaceBars Has Step) where
       pub witness : (n : ℕ) (f : Line) → IsOpen Low n → Step n f → IsWitness f a b c
       witness n f o st = closed (sheet.closes o.by (total a b c) cut.positive
-          (λ u h e. off_ends_at slab (total a b c) cut.positive cut.after cut.before u h) i_has o.by_lower
+          (λ u h e. off_answers_at slab (total a b c) cut.positive cut.after cut.before u h) i_has o.by_lower
           (over_of_spans sheet slab cut o.by i_spans))
         where
           cut : IsCut Has Low High left right (total a b c)

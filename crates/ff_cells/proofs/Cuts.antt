@@ -76,8 +76,8 @@ module _ {Has : Bar → Type 0} {left right : Place} (slab : IsSlab Has left rig
           absurd (omega (arith, linear))
 
   -- no end of a bar is over or under the place
-  pub off_ends_at : (b : Bar) → Has b → (run (spot b.lo) p ≢ pos 0) × (run p (spot b.hi) ≢ pos 0)
-  off_ends_at b h = by_cases (slab.quiet b h)
+  pub off_answers_at : (b : Bar) → Has b → (run (spot b.lo) p ≢ pos 0) × (run p (spot b.hi) ≢ pos 0)
+  off_answers_at b h = by_cases (slab.quiet b h)
     where
       -- the right end is further right
       wider : pos 0 <ℤ run (spot b.lo) (spot b.hi)
@@ -114,8 +114,8 @@ module _ {Has Low High : Bar → Type 0} {Step : ℕ → Line → Type 0} {left 
   pub spans_of_over : (b : Bar) → Has b → IsOver b p → Spans left right b
   spans_of_over b h o = spans_at slab p cut.positive cut.after cut.before b h o
 
-  off_ends : (b : Bar) → Has b → (run (spot b.lo) p ≢ pos 0) × (run p (spot b.hi) ≢ pos 0)
-  off_ends b h = off_ends_at slab p cut.positive cut.after cut.before b h
+  off_answers : (b : Bar) → Has b → (run (spot b.lo) p ≢ pos 0) × (run p (spot b.hi) ≢ pos 0)
+  off_answers b h = off_answers_at slab p cut.positive cut.after cut.before b h
 
   over_line : (b : Bar) → Low b → pos 0 <ℤ height (line_through b.lo b.hi) p
   over_line b l = subst (λ k. pos 0 <ℤ height k p) b.ok.through (cut.low b l)
@@ -152,7 +152,7 @@ module _ {Has Low High : Bar → Type 0} {Step : ℕ → Line → Type 0} {left 
           (sheet.step o.by (cut.low_has o.by o.by_low)),
     ),
     λ f st. closed f st
-        (sheet.closes o.by p cut.positive (λ b h e. off_ends b h) (cut.low_has o.by o.by_low) o.by_lower
+        (sheet.closes o.by p cut.positive (λ b h e. off_answers b h) (cut.low_has o.by o.by_low) o.by_lower
         (over_of_spans o.by (cut.low_spans o.by o.by_low))),
   )
     where
@@ -171,7 +171,7 @@ module _ {Has Low High : Bar → Type 0} {Step : ℕ → Line → Type 0} {left 
 
   -- and what is over it is open
   pub open_of_inside : (n : ℕ) → IsInside Step n p → IsOpen Low n
-  open_of_inside n inside = found (sheet.around n p cut.positive inside (λ b h e. off_ends b h))
+  open_of_inside n inside = found (sheet.around n p cut.positive inside (λ b h e. off_answers b h))
     where
       none : (u : Bar) → Low u → u.lower ≡ false → u.face ≡ n → ⊥
       none u l upper e =

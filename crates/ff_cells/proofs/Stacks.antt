@@ -12,7 +12,7 @@ use Rattle.ff_cells.specs.Gap.{run, gap, spot}
 use Rattle.ff_cells.specs.Sheet.{Spans, IsSlab, IsUnder, IsGapOf, IsCut, IsInside, AreFaceBars, IsOpen, IsOver}
 use Rattle.ff_cells.specs.Next.{StartsUp, StaysUp, IsNext, IsAmong, IsAfter, IsStrip}
 use Rattle.ff_cells.proofs.Gaps.{gap-trans, gap-inside, gap-run, gap-height, under_upper}
-use Rattle.ff_cells.proofs.Cuts.{run-opposite, run-trans_first, run-trans_last, spans_of_over, off_ends_at, open_of_inside}
+use Rattle.ff_cells.proofs.Cuts.{run-opposite, run-trans_first, run-trans_last, spans_of_over, off_answers_at, open_of_inside}
 use Rattle.ff_cells.proofs.Corners.{run-trans}
 use Rattle.ff_cells.proofs.Starts.{gap_of_start}
 
@@ -260,7 +260,7 @@ module _ {Has : Bar → Type 0} {from limit left right : Place} {v : List Bar}
       module _ {Step : ℕ → Line → Type 0} (sheet : AreFaceBars Has Step) where
         pub complete : (f : ℕ) → IsInside Step f p → (n : ℕ) × IsIn n
         complete f inside = first (sheet.around f p p_positive inside
-            (λ b h e. off_ends_at slab_of p p_positive p_after p_before b h))
+            (λ b h e. off_answers_at slab_of p p_positive p_after p_before b h))
           where
             first : (i : Bar) × Has i × (i.lower ≡ true) × (i.face ≡ f) × IsOver i p → (n : ℕ) × IsIn n
             first (i, h, lower, e, over) = placed (level_from (length v) 0 (omega arith)
@@ -275,7 +275,7 @@ module _ {Has : Bar → Type 0} {from limit left right : Place} {v : List Bar}
                     nobody : IsOpen (IsAmong v 0) f → ⊥
                     nobody o = none o.by_low.0 o.by_low.2
                 placed (suc n, l) = over_it (sheet.closes i p p_positive
-                    (λ b k q. off_ends_at slab_of p p_positive p_after p_before b k) h lower over)
+                    (λ b k q. off_answers_at slab_of p p_positive p_after p_before b k) h lower over)
                   where
                     next_is : suc n ≡ n + 1
                     next_is = omega arith

@@ -23,7 +23,6 @@ all_more list from n a b h on here k low l m = elim (last_or k n l) [
 ]
 
 module _ (IsRound : ℕ → Extent → Type 0) where
-
   pub extents_more : (n : ℕ) (list : List Extent) (a : Extent) → AreExtents IsRound n list → IsExtent a → IsRound n a → AreExtents IsRound (n + 1) (list ++ a ∷ [])
   extents_more n list a h x r = record {
     count = length_push list a ∙ ap (λ k. k + 1) h.count;

@@ -96,7 +96,6 @@ module _ (g : Sheet) (e f : ℕ) (p q : Pt) (np : IsNear p) (nq : IsNear q) (spa
 -- ---- the lists
 
 module _ (g : Sheet) where
-
   face_of : (e f : ℕ) → HasEdgeInside g f e → f < length g.rings
   face_of e f h = ltb-true f (length g.rings) (both_of (is_face g f) _ (h.inside 1 1 (omega arith) (omega arith))).0
 

@@ -1,5 +1,5 @@
 -- A place on the line through two points is on the way from one to the other where its rank is between theirs.
-use Rattle.std.proofs.Common.{◌≡◌, refl, ap, ◌∙◌, subst, arith, ◌+◌, ℤ, pos, ◌+ℤ◌, ◌-ℤ◌, ◌*ℤ◌, ◌<ℤ◌, ◌≤ℤ◌, Bool, true, false, ◌&&◌, IsTrue, [], ◌∷◌}
+use Rattle.std.proofs.Common.{◌≡◌, refl, ap, ◌∙◌, arith, ◌+◌, ℤ, pos, ◌+ℤ◌, ◌-ℤ◌, ◌*ℤ◌, ◌<ℤ◌, ◌≤ℤ◌, Bool, true, false, ◌&&◌, IsTrue, [], ◌∷◌}
 use lib.IntN.{neg_ℤ, *ℤ-zero, *ℤ_comm}
 use Rattle.std.specs.Prelude.{int_le}
 use Rattle.std.specs.Ordering.{int_eq}
@@ -17,7 +17,7 @@ use Rattle.ff_whole.proofs.Formulas.{point_e, point_env, line_e, line_env, place
 use Rattle.ff_whole.proofs.Ring.{var, ◌⊕◌, ◌⊖◌, ◌⊗◌, opp, solve, solve_from}
 use Rattle.ff_whole.proofs.Signs.{linear, zero-mul, zero_from_mul, pos-mul, nonneg-mul, nonneg-mul_nonpos, nonneg_from_mul}
 use Rattle.ff_whole.proofs.ThreeTerms.{parallel-both}
-use Rattle.ff_whole.proofs.Turns.{height-through, height-back, turn-rotate, turn-swap}
+use Rattle.ff_whole.proofs.Turns.{height-through, height-back, turn-rotate}
 use Rattle.ff_whole.proofs.Offsets.{height-past, height-ends}
 use Rattle.ff_whole.proofs.OnEdges.{IsOn}
 use Rattle.ff_edges.specs.Ways.{is_on_way}

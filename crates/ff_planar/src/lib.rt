@@ -15,7 +15,6 @@ mod traces;
 mod turns;
 mod walks;
 
-pub use ff_drawn::drawing;
 pub use laws::{
     faces_are_given_or_refused, faces_are_one, given_faces_are_not_refused,
     refusals_of_faces_are_one,

@@ -8,8 +8,8 @@ use Rattle.ff_types.specs.Sheets.{Sheet, is_face}
 use Rattle.ff_types.specs.Inside.{is_inside, Overlap}
 use Rattle.ff_types.proofs.SortedPairs.{before_is}
 use Rattle.ff_borders.proofs.Tests.{both_of, of_first, of_second, of_both, below_from}
-use Rattle.ff_layered.specs.Layers.{AreAllPairs, HasPairs}
-use Rattle.ff_layered.proofs.Finite.{IsWord, IsOrder, in_order, AreInRow, is_at, in_row_at, place_of_member}
+use Rattle.ff_answers.specs.Layers.{AreAllPairs, HasPairs}
+use Rattle.ff_answers.proofs.Finite.{IsWord, IsOrder, in_order, AreInRow, is_at, in_row_at, place_of_member}
 
 abbrev Before : ℕ × ℕ → ℕ × ℕ → Type 0
 Before p q = IsTrue (is_before p q)

@@ -1,6 +1,6 @@
-use Rattle.ff_layered.proofs.Cites.{some_cites}
-use Rattle.ff_layered.proofs.Constraints.{some_constraints}
-use Rattle.ff_layered.proofs.laws.some_constraints.Goals as goal
+use Rattle.ff_answers.proofs.Cites.{some_cites}
+use Rattle.ff_answers.proofs.Constraints.{some_constraints}
+use Rattle.ff_answers.proofs.layers.some_constraints.Goals as goal
 
 pub returns-clause-cites : goal.returns-clause-cites
 returns-clause-cites c = λ pattern faces folded h. some_cites h

@@ -16,10 +16,10 @@ use Rattle.ff_types.specs.Cases.{key}
 use Rattle.ff_types.specs.FoldedPatterns.{IsFoldedPattern}
 use Rattle.ff_borders.proofs.Tests.{both_of, below_from}
 use Rattle.ff_borders.proofs.TwoSides.{folded_edge, flat_edge}
-use Rattle.ff_layered.specs.Layers.{AreAllCites, HasCites}
-use Rattle.ff_layered.proofs.Finite.{IsWord, IsOrder, in_order, AreInRow, is_at, in_row_at, place_of_member}
-use Rattle.ff_layered.proofs.Keys.{keys_compare, keys_later}
-use Rattle.ff_layered.proofs.Places.{some_witness}
+use Rattle.ff_answers.specs.Layers.{AreAllCites, HasCites}
+use Rattle.ff_answers.proofs.Finite.{IsWord, IsOrder, in_order, AreInRow, is_at, in_row_at, place_of_member}
+use Rattle.ff_answers.proofs.Keys.{keys_compare, keys_later}
+use Rattle.ff_answers.proofs.Places.{some_witness}
 
 abbrev Before : Cite → Cite → Type 0
 Before c d = IsTrue (list_before (key c) (key d))

@@ -20,8 +20,8 @@ use Rattle.ff_cells.proofs.Slices.{one_place}
 use Rattle.ff_cells.proofs.BarEdges.{Reaches, AreEnds, on_edge, from_below, from_above, passes_below, parallel_bars}
 use Rattle.ff_cells.proofs.FaceLists.{off_edge}
 use Rattle.ff_cells.proofs.Drawn.{IsDrawn}
-use Rattle.ff_layered.proofs.Finite.{either_way}
-use Rattle.ff_layered.proofs.Signs.{bar_past}
+use Rattle.ff_answers.proofs.Finite.{either_way}
+use Rattle.ff_answers.proofs.Signs.{bar_past}
 
 module _ {g : Sheet} where
   -- ---- from left to right

@@ -12,9 +12,9 @@ use Rattle.ff_parts.specs.Lists.{vars_of}
 use Rattle.ff_parts.proofs.Factoring.{parts_factor}
 use Rattle.ff_parts.proofs.Classes.{part_at}
 use Rattle.ff_solver.proofs.Existing.{tree_of}
-use Rattle.ff_ends.specs.Ends.{HasEnds, EachSystemEnds}
-use Rattle.ff_ends.proofs.Closures.{some_facts}
-use Rattle.ff_ends.proofs.Classes.{some_parts}
+use Rattle.ff_answers.specs.Ends.{HasEnds, EachSystemEnds}
+use Rattle.ff_answers.proofs.Closures.{some_facts}
+use Rattle.ff_answers.proofs.Classes.{some_parts}
 
 ends : (vars : ℕ) (cons : List Constraint) → AreFit vars cons
     → (gs : List Given) (facts : List (Option Fact)) (parts : List Part) → length facts ≡ vars

@@ -9,7 +9,7 @@ use Rattle.ff_propagate.proofs.Joining.{Stands}
 use Rattle.ff_propagate.proofs.Quiet.{contains_stands}
 use Rattle.ff_parts.specs.Lists.{vars_of}
 use Rattle.ff_parts.proofs.Reaching.{link_on}
-use Rattle.ff_ends.proofs.Deciding.{either_way, each_below, some_least, AreFrom, some_from}
+use Rattle.ff_answers.proofs.Deciding.{either_way, each_below, some_least, AreFrom, some_from}
 
 module _ (vars : ℕ) (cons : List Constraint) (value : ℕ → Option Order) where
   abbrev Open : ℕ → Type 0

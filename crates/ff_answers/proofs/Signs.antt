@@ -25,7 +25,7 @@ use Rattle.ff_cells.proofs.Cuts.{run-opposite}
 use Rattle.ff_cells.proofs.Slices.{run_same, run_same_back, one_place}
 use Rattle.ff_cells.proofs.BarEdges.{AreEnds, from_on, on_vertical, from_below, from_above}
 use Rattle.ff_cells.proofs.Drawn.{IsDrawn}
-use Rattle.ff_layered.proofs.Finite.{IsWord}
+use Rattle.ff_answers.proofs.Finite.{IsWord}
 
 -- ---- which side
 

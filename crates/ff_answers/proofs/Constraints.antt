@@ -16,7 +16,7 @@ use Rattle.ff_types.specs.FoldedPatterns.{IsFoldedPattern}
 use Rattle.ff_types.proofs.SortedPairs.{place_stands}
 use Rattle.ff_borders.specs.Terms.{IsOverlapping}
 use Rattle.ff_borders.proofs.Terms.{terms_overlap}
-use Rattle.ff_layered.specs.Layers.{HasConstraints}
+use Rattle.ff_answers.specs.Layers.{HasConstraints}
 
 abbrev or_zero : Option ℕ → ℕ
 or_zero (Some n) = n

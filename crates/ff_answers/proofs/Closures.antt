@@ -14,8 +14,8 @@ use Rattle.ff_propagate.specs.declared.facts.Fact.{Fact}
 use Rattle.ff_propagate.specs.declared.facts.Reason.TheVariants as reason
 use Rattle.ff_propagate.specs.Facts.{fact_at, seen, value_at}
 use Rattle.ff_propagate.specs.Closure.{InClosure, Clashes, IsClosure, Gives}
-use Rattle.ff_ends.specs.Ends.{AreOfVariables}
-use Rattle.ff_ends.proofs.Deciding.{either_way, each_below}
+use Rattle.ff_answers.specs.Ends.{AreOfVariables}
+use Rattle.ff_answers.proofs.Deciding.{either_way, each_below}
 
 module _ (vars : ℕ) (cons : List Constraint) (fit : AreFit vars cons) (gs : List Given) (of_vars : AreOfVariables vars gs) where
   abbrev Has : ℕ → Order → Type 0

@@ -11,9 +11,9 @@ use Rattle.ff_cells.specs.SlabCells.{IsInCell, IsBefore, AreInOrder, AreOneEach}
 use Rattle.ff_cells.proofs.Drawn.{IsDrawn, drawn}
 use Rattle.ff_cells.proofs.BarsThere.{bars_there}
 use Rattle.ff_cells.proofs.OneCount.{AreTogether, clash}
-use Rattle.ff_layered.proofs.Finite.{AreInRow, IsOrder, in_order}
-use Rattle.ff_layered.proofs.Signs.{sides, are_word, all_lines, not_before}
-use Rattle.ff_layered.proofs.Ranks.{later}
+use Rattle.ff_answers.proofs.Finite.{AreInRow, IsOrder, in_order}
+use Rattle.ff_answers.proofs.Signs.{sides, are_word, all_lines, not_before}
+use Rattle.ff_answers.proofs.Ranks.{later}
 
 -- neither comes before the other
 abbrev AreOne : Sheet → Place → Place → Type 0

@@ -1,4 +1,0 @@
-pub mod Deciding
-pub mod Closures
-pub mod Classes
-pub mod Ending

@@ -1,9 +1,0 @@
-pub mod Finite
-pub mod Signs
-pub mod Ranks
-pub mod Cells
-pub mod Pairs
-pub mod Keys
-pub mod Places
-pub mod Cites
-pub mod Constraints

@@ -1,5 +1,0 @@
-use Rattle.ff_layered.proofs.Cells.{some_cells}
-use Rattle.ff_layered.proofs.laws.some_cells.Goals as goal
-
-pub returns : goal.returns
-returns c = λ pattern faces folded h. some_cells h
