@@ -17,9 +17,9 @@ use Rattle.ff_types.specs.FoldedPatterns.{IsFoldedPattern}
 use Rattle.ff_borders.proofs.Witnesses.{witnessed_hold}
 use Rattle.ff_cases.proofs.Alike.{lists_apart}
 use Rattle.ff_cases.proofs.Truth.{cases_are_true}
-use Rattle.ff_cells.specs.declared.limits.TheConstants.{MOST_CELLS, MOST_ENTRIES}
+use Rattle.ff_types.specs.declared.limits.TheConstants.{MOST_CELLS, MOST_ENTRIES}
 use Rattle.ff_cells.specs.SlabCells.{AreOneEach, entries, HasFewCells}
-use Rattle.ff_pairs.specs.declared.limits.TheConstants.{MOST_PAIRS}
+use Rattle.ff_types.specs.declared.limits.TheConstants.{MOST_PAIRS}
 use Rattle.ff_answers.specs.Layers.{AreAllPairs, AreAllCites}
 use Rattle.ff_answers.proofs.Cells.{some_cells}
 use Rattle.ff_answers.proofs.Pairs.{some_pairs}

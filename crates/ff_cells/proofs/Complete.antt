@@ -21,7 +21,7 @@ use Rattle.ff_types.specs.Sheets.{Sheet, sheet_of}
 use Rattle.ff_types.specs.Inside.{is_inside, over}
 use Rattle.ff_types.specs.FoldedPatterns.{IsFoldedPattern}
 use Rattle.ff_types.proofs.Memberships.{first_member, later_member}
-use Rattle.ff_cells.specs.declared.limits.TheConstants.{MOST_CELLS, MOST_ENTRIES}
+use Rattle.ff_types.specs.declared.limits.TheConstants.{MOST_CELLS, MOST_ENTRIES}
 use Rattle.ff_cells.specs.declared.bars.Bar.{Bar}
 use Rattle.ff_cells.specs.declared.cell.Cell.{Cell}
 use Rattle.ff_cells.specs.declared.found.Found.{Found}

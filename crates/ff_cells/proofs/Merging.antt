@@ -18,7 +18,7 @@ use Rattle.std.proofs.lemmas.List.Sums.{sum_by_push}
 use Rattle.ff_whole.specs.declared.places.Place.{Place}
 use Rattle.ff_types.specs.Sheets.{Sheet}
 use Rattle.ff_types.proofs.Memberships.{by_member, no_member, first_member, later_member}
-use Rattle.ff_cells.specs.declared.limits.TheConstants.{MOST_CELLS, MOST_ENTRIES}
+use Rattle.ff_types.specs.declared.limits.TheConstants.{MOST_CELLS, MOST_ENTRIES}
 use Rattle.ff_cells.specs.declared.cell.Cell.{Cell}
 use Rattle.ff_cells.specs.declared.found.Found.{Found}
 use Rattle.ff_cells.specs.Merged.{are_same, has_set, with_next, firsts_from, firsts, faces_cmp, AreNumbered}

@@ -20,7 +20,7 @@ use Rattle.ff_types.specs.declared.refusals.What.TheVariants.{Cells}
 use Rattle.std.proofs.lemmas.List.Sorted.{IsPermutation-trans}
 use Rattle.ff_types.specs.declared.refusals.No.{No}
 use Rattle.ff_types.specs.declared.refusals.No.TheVariants.{Refused, NoMemory}
-use Rattle.ff_cells.specs.declared.limits.TheConstants.{MOST_CELLS}
+use Rattle.ff_types.specs.declared.limits.TheConstants.{MOST_CELLS}
 use Rattle.ff_cells.specs.declared.found.Found.{Found}
 use Rattle.ff_cells.specs.Tally.{capped, IsTally, Adds}
 use Rattle.ff_cells.specs.Stopped.{IsStopped, IsSweptBetween, AreSwept, AreStopped}

@@ -8,7 +8,7 @@ use Rattle.ff_types.specs.declared.refusals.No.TheVariants.{Refused}
 use Rattle.ff_types.specs.declared.refusals.Refusal.{Refusal}
 use Rattle.ff_types.specs.FoldedPatterns.{IsFoldedPattern}
 use Rattle.ff_types.specs.Sheets.{Sheet, sheet_of}
-use Rattle.ff_cells.specs.declared.limits.TheConstants.{MOST_CELLS, MOST_ENTRIES}
+use Rattle.ff_types.specs.declared.limits.TheConstants.{MOST_CELLS, MOST_ENTRIES}
 use Rattle.ff_cells.specs.SlabCells.{StandInCells, AreOneEach, entries, AreNoCells}
 
 -- No list of places in different slab cells is longer, or has more entries, than one with a place in each.

@@ -15,7 +15,7 @@ use Rattle.ff_types.specs.declared.refusals.No.TheVariants.{Refused, NoMemory}
 use Rattle.ff_types.specs.declared.refusals.Refusal.TheVariants.{TooMany}
 use Rattle.ff_types.specs.declared.refusals.What.TheVariants.{Cells, Entries}
 use Rattle.ff_cells.specs.declared.cell.Cell.{Cell}
-use Rattle.ff_cells.specs.declared.limits.TheConstants.{MOST_CELLS, MOST_ENTRIES}
+use Rattle.ff_types.specs.declared.limits.TheConstants.{MOST_CELLS, MOST_ENTRIES}
 use Rattle.ff_cells.specs.FaceSets.{is_off, AreOffLines}
 use Rattle.ff_cells.specs.Gap.{run}
 use Rattle.ff_cells.specs.Sheet.{total}

@@ -5,7 +5,7 @@ use Rattle.ff_types.specs.declared.refusals.No.TheVariants.{Refused, NoMemory}
 use Rattle.ff_types.specs.declared.refusals.Refusal.TheVariants.{TooMany}
 use Rattle.ff_types.specs.declared.refusals.What.TheVariants.{Cells}
 use Rattle.ff_whole.specs.declared.places.Place.{Place}
-use Rattle.ff_cells.specs.declared.limits.TheConstants.{MOST_CELLS}
+use Rattle.ff_types.specs.declared.limits.TheConstants.{MOST_CELLS}
 use Rattle.ff_cells.specs.declared.bars.Bar.{Bar}
 use Rattle.ff_cells.specs.declared.cell.Cell.{Cell}
 use Rattle.ff_cells.specs.declared.found.Found.{Found}

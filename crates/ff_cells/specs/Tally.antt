@@ -1,7 +1,7 @@
 -- The cells found so far, counted up to one past a limit.
 use Rattle.std.specs.Prelude.{ℕ, ◌≡◌, ◌+◌, ◌≤◌, List, [], ◌∷◌, ◌++◌, length, nat_lt, if◌then◌else◌}
 use Rattle.std.specs.List.{sum_by}
-use Rattle.ff_cells.specs.declared.limits.TheConstants.{MOST_CELLS, MOST_ENTRIES}
+use Rattle.ff_types.specs.declared.limits.TheConstants.{MOST_CELLS, MOST_ENTRIES}
 use Rattle.ff_cells.specs.declared.cell.Cell.{Cell}
 use Rattle.ff_cells.specs.declared.found.Corners.{Corners}
 use Rattle.ff_cells.specs.declared.found.Found.{Found}

@@ -6,7 +6,7 @@ use Rattle.ff_whole.specs.declared.points.Pt.{Pt}
 use Rattle.ff_cells.specs.declared.bars.Bar.{Bar}
 use Rattle.ff_cells.specs.declared.cell.Cell.{Cell}
 use Rattle.ff_cells.specs.declared.found.Found.{Found}
-use Rattle.ff_cells.specs.declared.limits.TheConstants.{MOST_CELLS}
+use Rattle.ff_types.specs.declared.limits.TheConstants.{MOST_CELLS}
 use Rattle.ff_cells.specs.Steps.{AreBars}
 use Rattle.ff_cells.specs.Strip.{IsCells}
 use Rattle.ff_cells.specs.Tally.{IsTally}

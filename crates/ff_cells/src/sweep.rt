@@ -20,7 +20,6 @@ ghost use Rattle.ff_whole.specs.declared.places.Place.{Place as PlaceRow};
 ghost use Rattle.ff_cells.specs.Gap.{run};
 ghost use Rattle.ff_cells.specs.Next.{StartsUp, IsNext};
 
-use crate::MOST_CELLS;
 use crate::active::Active;
 use crate::adding::nothing;
 use crate::bars::{Bar, crossing, sort_bars};
@@ -29,7 +28,7 @@ use crate::found::Found;
 use crate::reaching::{copied, enter};
 use crate::slab::slab;
 use ff_tables::NoMemory;
-use ff_types::{No, Refusal, What};
+use ff_types::{MOST_CELLS, No, Refusal, What};
 use ff_whole::Place;
 use std::alloc::Global;
 use std::cmp::Ordering;

@@ -10,7 +10,7 @@ use Rattle.ff_types.specs.Sheets.{Sheet}
 use Rattle.ff_types.specs.Inside.{Overlap}
 use Rattle.ff_cells.specs.declared.cell.Cell.{Cell}
 use Rattle.ff_cells.specs.FaceSets.{HaveFaceSets}
-use Rattle.ff_pairs.specs.declared.limits.TheConstants.{MOST_PAIRS}
+use Rattle.ff_types.specs.declared.limits.TheConstants.{MOST_PAIRS}
 
 -- both faces are over one of the cells
 pub record AreTogether (cells : List Cell) (f h : ℕ) : Type 0 where

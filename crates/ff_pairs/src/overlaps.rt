@@ -4,15 +4,14 @@ ghost use Rattle.std.specs.List.{All};
 ghost use Rattle.std.specs.List.Sorted.{IsStrictlyIncreasing};
 ghost use Rattle.ff_types.specs.declared.limits.TheConstants.{MOST_FACES as most_faces};
 ghost use Rattle.ff_cells.specs.FaceSets.{IsFaceList};
-ghost use Rattle.ff_pairs.specs.declared.limits.TheConstants.{MOST_PAIRS as most_pairs};
+ghost use Rattle.ff_types.specs.declared.limits.TheConstants.{MOST_PAIRS as most_pairs};
 ghost use Rattle.ff_pairs.specs.Together.{ArePairsOf, AreNoPairs};
 
-use crate::MOST_PAIRS;
 use crate::listing::list_rows;
 use crate::marking::mark_cells;
 use ff_cells::Cell;
 use ff_tables::{Items, NoMemory};
-use ff_types::{No, Pairs, Refusal, What};
+use ff_types::{MOST_PAIRS, No, Pairs, Refusal, What};
 use std::alloc::Global;
 
 // One more than the last of the faces, or 0.

@@ -29,7 +29,7 @@ use Rattle.ff_cells.specs.declared.cell.Cell.{Cell}
 use Rattle.ff_cells.specs.FaceSets.{HaveFaceSets}
 use Rattle.ff_trans.specs.Triples.{AreTriples}
 use Rattle.ff_tacos.specs.Tacos.{AreTacos, is_of_edges}
-use Rattle.ff_listed.specs.Splitting.{constraint_of, cite_of}
+use Rattle.ff_types.specs.Splitting.{constraint_of, cite_of}
 
 -- ---- a list behind another
 

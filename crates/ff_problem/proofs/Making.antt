@@ -19,7 +19,7 @@ use Rattle.ff_types.specs.Pairs.{AreSorted}
 use Rattle.ff_types.specs.Inside.{Overlap}
 use Rattle.ff_types.specs.Cases.{key, start_of, IsCaseOf, IsConstraintOf}
 use Rattle.ff_types.specs.FoldedPatterns.{IsFoldedPattern}
-use Rattle.ff_listed.specs.Splitting.{constraint_of, cite_of}
+use Rattle.ff_types.specs.Splitting.{constraint_of, cite_of}
 use Rattle.ff_problem.specs.Limits.{IsWithinLimits}
 use Rattle.ff_problem.specs.Problems.{IsProblem}
 use Rattle.ff_problem.specs.Layers.{AreConstraints, IsCaseWithin}

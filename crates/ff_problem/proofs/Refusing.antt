@@ -34,7 +34,7 @@ use Rattle.ff_edges.specs.EdgesInside.{AreNoEdgeFaces, is_inner_edge}
 use Rattle.ff_pairs.specs.Together.{AreNoPairs}
 use Rattle.ff_trans.specs.Triples.{AreNoTriples, AreTriples}
 use Rattle.ff_tacos.specs.Tacos.{AreTooMany, AreTacos}
-use Rattle.ff_listed.specs.Splitting.{cite_of}
+use Rattle.ff_types.specs.Splitting.{cite_of}
 use Rattle.ff_types.specs.declared.limits.TheConstants.{MOST_CONSTRAINTS}
 use Rattle.ff_cells.specs.SlabCells.{HasFewCells}
 use Rattle.ff_problem.specs.Limits.{HasManyPairs, HasManyConstraints, WhyNoCase}

@@ -12,7 +12,7 @@ use Rattle.ff_cells.specs.FaceSets.{HaveFaceSets, IsFaceList}
 use Rattle.ff_pairs.specs.Together.{ArePairsOf}
 use Rattle.ff_trans.specs.Triples.{AreTriples}
 use Rattle.ff_tacos.specs.Tacos.{AreTacos}
-use Rattle.ff_pairs.specs.declared.limits.TheConstants.{MOST_PAIRS}
+use Rattle.ff_types.specs.declared.limits.TheConstants.{MOST_PAIRS}
 use Rattle.ff_types.specs.declared.limits.TheConstants.{MOST_CONSTRAINTS}
 use Rattle.ff_cells.specs.SlabCells.{HasFewCells}
 use Rattle.ff_problem.specs.Limits.{IsWithinLimits}

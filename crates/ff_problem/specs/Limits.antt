@@ -12,7 +12,7 @@ use Rattle.ff_types.specs.Inside.{Overlap}
 use Rattle.ff_types.specs.Cites.{Holds}
 use Rattle.ff_types.specs.Cases.{key}
 use Rattle.ff_cells.specs.SlabCells.{HasFewCells, AreNoCells}
-use Rattle.ff_pairs.specs.declared.limits.TheConstants.{MOST_PAIRS}
+use Rattle.ff_types.specs.declared.limits.TheConstants.{MOST_PAIRS}
 use Rattle.ff_types.specs.declared.limits.TheConstants.{MOST_CONSTRAINTS}
 
 -- different overlapping pairs, in order

@@ -13,7 +13,7 @@ use crate::passes::{
     append_flat_edges, append_flat_faces, append_taco_edges, append_taco_faces, append_taco_tacos,
 };
 use ff_edges::{EdgeFace, EdgePair};
-use ff_listed::Listing;
+use ff_types::Listing;
 use ff_tables::Items;
 use ff_types::{Faces, Folded, No, Pairs, Pattern};
 use std::alloc::Global;

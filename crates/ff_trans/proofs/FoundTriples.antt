@@ -26,7 +26,7 @@ use Rattle.ff_types.proofs.Memberships.{no_member, by_member, in_filter, filter_
 use Rattle.ff_cells.specs.declared.cell.Cell.{Cell}
 use Rattle.ff_cells.specs.FaceSets.{HaveFaceSets}
 use Rattle.ff_pairs.specs.Together.{AreTogether, ArePairsOf}
-use Rattle.ff_listed.specs.Splitting.{IsFull}
+use Rattle.ff_types.specs.Splitting.{IsFull}
 use Rattle.ff_trans.specs.Triples.{HasThree, HasCite, IsTriple, AreSomeTriples, AreWitnessed, AreTriples, AreNoTriples}
 use Rattle.ff_types.specs.Pairs.{AreSorted, pair_at}
 use Rattle.ff_trans.specs.Rows.{IsListedBefore, IsListedTo, IsFirst, IsOfFaces, IsTaken, AreFoundTo, IsRow, IsReach}

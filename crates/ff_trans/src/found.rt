@@ -1,5 +1,5 @@
 //! The triples found so far.
-use ff_listed::Listing;
+use ff_types::Listing;
 
 // How many triples were found. They are listed only where they are kept.
 #[derive(Drop)]

@@ -16,7 +16,7 @@ use crate::marking::mark_row;
 use crate::taking::take;
 use crate::width::width;
 use ff_cells::Cell;
-use ff_listed::Listing;
+use ff_types::Listing;
 use ff_tables::{Items, NoMemory};
 use ff_types::{No, Pairs};
 use std::alloc::Global;

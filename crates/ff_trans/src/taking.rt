@@ -6,7 +6,7 @@ ghost use Rattle.ff_types.specs.declared.refusals.Refusal.TheVariants.{TooMany};
 ghost use Rattle.ff_types.specs.declared.refusals.What.TheVariants.{Constraints};
 ghost use Rattle.ff_types.specs.declared.limits.TheConstants.{MOST_CONSTRAINTS as most_constraints};
 ghost use Rattle.ff_types.specs.Pairs.{AreSorted};
-ghost use Rattle.ff_listed.specs.Splitting.{IsFull};
+ghost use Rattle.ff_types.specs.Splitting.{IsFull};
 ghost use Rattle.ff_trans.specs.Rows.{IsTaken, IsOfFaces};
 
 use crate::found::Found;

@@ -30,3 +30,4 @@ pub mod FoldedEdges
 pub mod FoldedOverlap
 pub mod CreaseOverlap
 mod CreasedSheets
+mod Split

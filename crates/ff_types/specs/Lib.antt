@@ -28,3 +28,4 @@ pub mod Carrying
 pub mod FoldRefusals
 pub mod FoldedPatterns
 pub mod Assignments
+pub mod Splitting

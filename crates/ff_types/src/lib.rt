@@ -6,6 +6,7 @@ mod cites;
 mod faces;
 mod laws;
 mod limits;
+mod listing;
 mod pairs;
 mod patterns;
 mod pins;
@@ -19,6 +20,7 @@ pub use limits::{
     MOST_BYTES, MOST_CELLS, MOST_CONSTRAINTS, MOST_EDGES, MOST_ENTRIES, MOST_FACES, MOST_PAIRS,
     MOST_VERTICES,
 };
+pub use listing::Listing;
 pub use pairs::{Pairs, pairs_of};
 pub use patterns::{EdgeEnds, Mark, Pattern};
 pub use pins::Pin;

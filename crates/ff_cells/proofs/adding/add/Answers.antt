@@ -1,6 +1,6 @@
 use Rattle.std.proofs.Common.{◌+◌, ◌∙◌, [], ◌∷◌, ◌++◌, length, refl, sym, ap, subst, arith, Result, Ok, Err, OnOk, is_some}
 use Rattle.ff_cells.specs.declared.cell.Cell.{Cell}
-use Rattle.ff_cells.specs.declared.limits.TheConstants.{MOST_ENTRIES}
+use Rattle.ff_types.specs.declared.limits.TheConstants.{MOST_ENTRIES}
 use Rattle.ff_cells.specs.Emits.{IsGapCell}
 use Rattle.ff_cells.specs.Merged.{has_set, AreNumbered}
 use Rattle.ff_cells.specs.Tally.{capped}

@@ -1,7 +1,7 @@
 use Rattle.std.proofs.Common.{subst, sym, ◌∙◌, ◌≤◌, length}
 use Rattle.std.specs.List.{All}
 use Rattle.ff_types.specs.Sheets.{sheet_of}
-use Rattle.ff_cells.specs.declared.limits.TheConstants.{MOST_CELLS, MOST_ENTRIES}
+use Rattle.ff_types.specs.declared.limits.TheConstants.{MOST_CELLS, MOST_ENTRIES}
 use Rattle.ff_cells.specs.Tally.{entries_of}
 use Rattle.ff_cells.specs.FaceSets.{HaveFaceSets, IsFaceList}
 use Rattle.ff_cells.specs.SlabCells.{AreCells}

@@ -4,10 +4,10 @@ ghost use Rattle.ff_types.specs.declared.refusals.No.TheVariants.{Refused};
 ghost use Rattle.ff_types.specs.declared.refusals.Refusal.TheVariants.{TooMany};
 ghost use Rattle.ff_types.specs.declared.refusals.What.TheVariants.{Constraints};
 ghost use Rattle.ff_types.specs.declared.limits.TheConstants.{MOST_CONSTRAINTS as most_constraints};
-ghost use Rattle.ff_listed.specs.Splitting.{listed_of, constraint_of, cite_of, IsFull};
+ghost use Rattle.ff_types.specs.Splitting.{listed_of, constraint_of, cite_of, IsFull};
 
+use crate::{Cite, Listed, MOST_CONSTRAINTS, No, Refusal, What};
 use ff_tables::{Constraint, Items, NoMemory};
-use ff_types::{Cite, Listed, MOST_CONSTRAINTS, No, Refusal, What};
 use std::alloc::Global;
 use std::marker::Model;
 
@@ -22,7 +22,7 @@ pub struct Listing {
 impl Model for Listing {
     ghost use Rattle.std.specs.Prelude.{List, ◌≡◌, length};
     ghost use Rattle.ff_types.specs.declared.cites.Listed.{Listed};
-    ghost use Rattle.ff_listed.specs.Splitting.{listed_of};
+    ghost use Rattle.ff_types.specs.Splitting.{listed_of};
 
     ghost Value = { List Listed };
 

@@ -1,9 +1,9 @@
 -- A list and its two parts.
-use Rattle.std.proofs.Common.{◌≡◌, ℕ, zero, suc, ◌+◌, List, [], ◌∷◌, ◌++◌, map, length, refl, ap, arith}
+use Rattle.std.proofs.Common.{◌≡◌, suc, List, [], ◌∷◌, ◌++◌, map, length, refl, ap, arith}
 use Rattle.ff_tables.specs.declared.terms.Constraint.{Constraint}
 use Rattle.ff_types.specs.declared.cites.Cite.{Cite}
 use Rattle.ff_types.specs.declared.cites.Listed.{Listed}
-use Rattle.ff_listed.specs.Splitting.{listed_of, constraint_of, cite_of}
+use Rattle.ff_types.specs.Splitting.{listed_of, constraint_of, cite_of}
 
 pub length-listed : (cons : List Constraint) (cites : List Cite) → length cons ≡ length cites → length cites ≡ length (listed_of cons cites)
 length-listed [] [] e = refl

@@ -1,10 +1,9 @@
-use Rattle.std.proofs.Common.{◌≡◌, ◌≤◌, ◌+◌, ℕ, sym, ◌∙◌, ap, subst, refl, arith, length, List, [], ◌∷◌, ◌++◌}
+use Rattle.std.proofs.Common.{◌≡◌, ◌≤◌, sym, ◌∙◌, ap, subst, refl, arith, length, [], ◌∷◌, ◌++◌}
 use Rattle.std.proofs.lemmas.List.{length_push}
-use Rattle.ff_types.specs.declared.cites.Listed.{Listed}
 use Rattle.ff_types.specs.declared.limits.TheConstants.{MOST_CONSTRAINTS}
-use Rattle.ff_listed.specs.Splitting.{listed_of, IsFull}
-use Rattle.ff_listed.proofs.Split.{length-listed, listed-push}
-use Rattle.ff_listed.proofs.listing.Listing.append.Goals as goal
+use Rattle.ff_types.specs.Splitting.{listed_of, IsFull}
+use Rattle.ff_types.proofs.Split.{length-listed, listed-push}
+use Rattle.ff_types.proofs.listing.Listing.append.Goals as goal
 
 pub returns-then-as_slice-ge-MOST_CONSTRAINTS-clause-refused : goal.returns-then-as_slice-ge-MOST_CONSTRAINTS-clause-refused
 returns-then-as_slice-ge-MOST_CONSTRAINTS-clause-refused c =
