@@ -43,9 +43,6 @@ grown_more factor old new n p h l q = record {
     here : point_at (slice_set new n p) n ≡ p
     here = get_or-set_same new n p origin l
 
-scaled_origin : (factor : ℤ) → origin ≡ scaled factor origin
-scaled_origin factor = let z = sym (*ℤ-zero factor) in λ i. record { x = z i; y = z i }
-
 -- ---- an image in lowest terms
 
 -- with numbers that fit

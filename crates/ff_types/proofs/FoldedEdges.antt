@@ -19,7 +19,6 @@ use Rattle.ff_types.specs.declared.faces.Folded.{Folded}
 use Rattle.ff_types.specs.Patterns.{edge_at}
 use Rattle.ff_types.specs.Rings.{corner, corners, Goes}
 use Rattle.ff_types.specs.Faces.{ring_at, mark_at, Belongs, FitsMark, FitMarks}
-use Rattle.ff_types.specs.Sides.{IsFaceOf}
 use Rattle.ff_types.specs.Sheets.{Sheet, sheet_of, tail, head}
 use Rattle.ff_types.specs.FoldedPatterns.{IsFoldedPattern}
 use Rattle.ff_types.proofs.SubRings.{corner_point}
@@ -103,10 +102,3 @@ module _ {pattern : Pattern} {faces : Faces} {folded : Folded} (h : IsFoldedPatt
     by : Belongs faces.rings (edge_at pattern.edges e).a (edge_at pattern.edges e).b ⊎ Belongs faces.rings (edge_at pattern.edges e).b (edge_at pattern.edges e).a → tail g e ≢ head g e
     by (inl (f, m, s)) = not_apart (tail g e) (head g e) (step_long f a b m s apart)
     by (inr (f, m, s)) = λ q. not_apart (head g e) (tail g e) (step_long f b a m s (λ r. apart (sym r))) (sym q)
-
-  -- the face beside an edge is a face
-  pub side_below : (rings : List (List ℕ)) (u v f : ℕ) (o : Option ℕ) → IsFaceOf rings u v o → o ≡ Some f → f < length rings
-  side_below rings u v f None s e = cc
-  side_below rings u v f (Some k) s e = subst (λ n. n < length rings) (some_of k f e) s.0 where
-    some_of : (x y : ℕ) → Some x ≡ Some y → x ≡ y
-    some_of x y e = cc

@@ -1,5 +1,5 @@
 pub mod SortedPairs
-pub mod Members
+mod Members
 pub mod Named
 pub mod Computing
 pub mod ComputedDrawings
@@ -14,16 +14,16 @@ mod PlacingTests
 pub mod Memberships
 pub mod TwoFaces
 pub mod FewFaces
-pub mod StackingTests
+mod StackingTests
 mod CaseTests
 mod DegenerateTests
-pub mod PairOrder
-pub mod Starts
+mod PairOrder
+mod Starts
 pub mod ConvexEdges
 pub mod PlainSheets
 pub mod SubRings
-pub mod OneCrease
-pub mod CutRings
+mod OneCrease
+mod CutRings
 pub mod CreaseFaces
 mod RefusalTests
 pub mod FoldedEdges

@@ -29,12 +29,6 @@ before_trans p q r h k = by (before_is p q h) (before_is q r k) where
 there : (list : List (ℕ × ℕ)) (n : ℕ) → n < length list → slice_get list n ≡ Some (pair_at list n)
 there list n h = slice_get-get_or list n (0, 0) h
 
-pub next_from_sorted : (list : List (ℕ × ℕ)) (n : ℕ) → AreSorted list → n < length list → IsNext list n
-next_from_sorted list n s h = record {
-  rising = s.rising n (pair_at list n) (there list n h);
-  after = λ some. s.sorted (n - 1) n (pair_at list (n - 1)) (pair_at list n) (omega (arith, some)) (there list (n - 1) (omega (arith, h))) (there list n h);
-}
-
 pub sorted_from_next : (list : List (ℕ × ℕ)) → ((k : ℕ) → k < length list → IsNext list k) → AreSorted list
 sorted_from_next list f = record {
   rising = λ n p e. subst (λ (q : ℕ × ℕ). q.0 < q.1) (get_or_from_slice_get list n p (0, 0) e) (f n (slice_get_within list n p e)).rising;
