@@ -1,5 +1,5 @@
 -- The steps on the way to the case.
-use Rattle.std.proofs.Common.{◌≡◌, ℕ, ◌<◌, ◌≤◌, ◌∙◌, List, [], ◌∷◌, length, map, Contains, Result, Ok, Err, IfOk, IfErr, refl, ap, sym, subst, arith}
+use Rattle.std.proofs.Common.{ℕ, ◌≤◌, List, length, map, Contains, Result, Ok, Err, IfOk, subst, arith}
 use Rattle.std.proofs.lemmas.List.{length-map}
 use Rattle.std.specs.List.{All}
 use Rattle.ff_types.specs.declared.patterns.Pattern.{Pattern}
@@ -15,8 +15,6 @@ use Rattle.ff_cells.specs.Tally.{entries_of}
 use Rattle.ff_cells.specs.SlabCells.{AreCells, IsSlabCell, middle}
 use Rattle.ff_cells.specs.FaceSets.{HaveFaceSets, IsFaceList}
 use Rattle.ff_cells.proofs.Complete.{entries_are}
-use Rattle.ff_pairs.specs.Together.{ArePairsOf}
-use Rattle.ff_pairs.specs.declared.limits.TheConstants.{MOST_PAIRS}
 use Rattle.ff_trans.specs.Triples.{AreTriples}
 use Rattle.ff_types.specs.declared.limits.TheConstants.{MOST_CONSTRAINTS}
 use Rattle.ff_problem.specs.Limits.{HasFewCells}
