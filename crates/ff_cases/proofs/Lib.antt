@@ -4,3 +4,5 @@ pub mod Creases
 pub mod Truth
 pub mod SortedLists
 pub mod Alike
+pub mod Behind
+pub mod Pinning

@@ -3,4 +3,4 @@
 
 mod laws;
 
-pub use laws::{cases_are_alike, cases_are_true};
+pub use laws::{cases_are_alike, cases_are_true, pins_are_held};

@@ -1,6 +1,6 @@
 -- The four forms of chords at a plain border place: of a face, of a flat edge, and of a folded edge to the
 -- left or right.
-use Rattle.std.proofs.Common.{◌≡◌, ◌≢◌, ℕ, ◌<◌, ◌⊎◌, inl, inr, Bool, true, false, length, sym, ap, ◌∙◌, IsTrue, Contains, Option, Some, None}
+use Rattle.std.proofs.Common.{◌≡◌, ◌≢◌, ℕ, ◌<◌, ◌⊎◌, inl, inr, Bool, true, false, length, refl, sym, ap, ◌∙◌, IsTrue, Option, Some, None}
 use Rattle.ff_whole.specs.declared.places.Place.{Place}
 use Rattle.ff_types.specs.declared.patterns.Mark.TheVariants.{B}
 use Rattle.ff_types.specs.Sheets.{Sheet, mark_of, left_face, right_face}
@@ -8,12 +8,13 @@ use Rattle.ff_types.specs.Inside.{is_inside}
 use Rattle.ff_types.specs.Borders.{is_on, IsPlainBorder}
 use Rattle.ff_types.specs.Covering.{is_on_ring}
 use Rattle.ff_types.specs.Cites.{is_folded_edge, is_flat_edge, lesser, greater}
-use Rattle.ff_types.specs.Crossings.{Side, entry, chords}
+use Rattle.ff_types.specs.Crossings.{Side, entry}
 use Rattle.ff_types.specs.Crossings.Side.{Left, Right}
 use Rattle.ff_borders.specs.Folded.{AreBeside}
 use Rattle.ff_borders.specs.Lying.{IsLeftAlone, IsRightAlone}
 use Rattle.ff_crossings.proofs.BorderLaws.{HasBorderLaws}
-use Rattle.ff_crossings.proofs.ChordLists.{edge_chord_in}
+use Rattle.ff_crossings.specs.Crossed.{IsChordOf}
+use Rattle.ff_crossings.specs.Crossed.Bearer.{OfEdge}
 use Rattle.ff_crossings.proofs.EdgeFaces.{folded_number, flat_number, folded_is_inner, flat_is_inner, bounds_first, bounds_second, on_its_ring, covers_its_left, entry_left, entry_right}
 
 pub data Form : Type 0 where
@@ -131,10 +132,30 @@ module _ (g : Sheet) (laws : HasBorderLaws g) (e : ℕ) (s : Place) (plain : IsP
     own = (entry g e s (lesser g k), entry g e s (greater g k))
 
     -- its chord, one way round or the other
-    pub own_chord : Contains (chords g e s) own ⊎ Contains (chords g e s) (swapped own)
+    pub own_chord : IsChordOf g e s (OfEdge k) own ⊎ IsChordOf g e s (OfEdge k) (swapped own)
     own_chord = elim beside_of.beside [
-      | inl b ↦ inl (edge_chord_in g e s k (lesser g k) (greater g k) is.number is.on is.inner b.0 b.1)
-      | inr b ↦ inr (edge_chord_in g e s k (greater g k) (lesser g k) is.number is.on is.inner b.0 b.1)
+      | inl b ↦ inl (record {
+        edge = k;
+        is_edge = is.number;
+        on = is.on;
+        inner = is.inner;
+        left = lesser g k;
+        right = greater g k;
+        left_is = b.0;
+        right_is = b.1;
+        same = refl;
+      }, refl)
+      | inr b ↦ inr (record {
+        edge = k;
+        is_edge = is.number;
+        on = is.on;
+        inner = is.inner;
+        left = greater g k;
+        right = lesser g k;
+        left_is = b.0;
+        right_is = b.1;
+        same = refl;
+      }, refl)
     ]
 
     pub own_of : (f h : ℕ) (c : Side × Side) → left_face g k ≡ Some f → right_face g k ≡ Some h

@@ -1,6 +1,6 @@
 -- In an order of the overlaps two faces are compared where they overlap: over a place, and on a side of a
 -- border place.
-use Rattle.std.proofs.Common.{◌≡◌, ◌≢◌, ℕ, ◌<◌, inl, inr, Bool, true, false, not, ◌&&◌, length, refl, sym, subst, ap, ◌∙◌, IsTrue}
+use Rattle.std.proofs.Common.{◌≡◌, ◌≢◌, ℕ, ◌<◌, ◌⊎◌, inl, inr, Bool, true, false, not, ◌&&◌, length, refl, sym, subst, ap, ◌∙◌, IsTrue}
 use Rattle.std.proofs.lemmas.Bool.{false≢true, and_from}
 use Rattle.ff_whole.specs.declared.places.Place.{Place}
 use Rattle.ff_whole.specs.Places.{IsPlace}
@@ -10,7 +10,7 @@ use Rattle.ff_types.specs.Borders.{is_on, IsPlainBorder}
 use Rattle.ff_types.specs.Covering.{covers_left, covers_right, left_faces, right_faces}
 use Rattle.ff_types.specs.Stackings.{OrdersOverlaps}
 use Rattle.ff_crossings.specs.Listings.{AreCompared}
-use Rattle.ff_crossings.specs.Alternating.{IsOneWay, IsAmong, Cross}
+use Rattle.ff_crossings.specs.Alternating.{IsOneWay, IsAmong, IsBeyond, Interleave, Cross}
 use Rattle.ff_crossings.proofs.BorderLaws.{HasBorderLaws}
 use Rattle.ff_crossings.proofs.ChordLists.{in_over, in_faces}
 
@@ -23,23 +23,51 @@ turned : (v w : Bool) → v ≡ not w → v ≡ false → IsTrue w
 turned v true e q = refl
 turned v false e q = absurd (false≢true (sym q ∙ e))
 
-pub not_among : (above : ℕ → ℕ → Bool) (x y z : ℕ) → IsCompared above x z → IsCompared above y z
-    → (IsAmong above x y z → ⊥) → above x z ≡ above y z
-not_among above x y z p q n = by (above x z) (above y z) refl refl where
-  by : (v w : Bool) → above x z ≡ v → above y z ≡ w → above x z ≡ above y z
-  by true true a b = a ∙ sym b
-  by true false a b = absurd (n (inr (turned (above y z) (above z y) q b, a)))
-  by false true a b = absurd (n (inl (turned (above x z) (above z x) p a, b)))
-  by false false a b = a ∙ sym b
+pub same_or_among : (above : ℕ → ℕ → Bool) (x y z : ℕ) → IsCompared above x z → IsCompared above y z
+    → (above x z ≡ above y z) ⊎ IsAmong above x y z
+same_or_among above x y z p q = by (above x z) (above y z) refl refl where
+  by : (v w : Bool) → above x z ≡ v → above y z ≡ w → (above x z ≡ above y z) ⊎ IsAmong above x y z
+  by true true a b = inl (a ∙ sym b)
+  by true false a b = inr (inr (turned (above y z) (above z y) q b, a))
+  by false true a b = inr (inl (turned (above x z) (above z x) p a, b))
+  by false false a b = inl (a ∙ sym b)
 
-pub not_cross : (above : ℕ → ℕ → Bool) (f f2 h h2 : ℕ) → IsCompared above f h → IsCompared above f2 h2
-    → (Cross above f f2 h h2 → ⊥) → above f h ≡ above f2 h2
-not_cross above f f2 h h2 p q n = by (above f h) (above f2 h2) refl refl where
-  by : (v w : Bool) → above f h ≡ v → above f2 h2 ≡ w → above f h ≡ above f2 h2
-  by true true a b = a ∙ sym b
-  by true false a b = absurd (n (inr (a, turned (above f2 h2) (above h2 f2) q b)))
-  by false true a b = absurd (n (inl (turned (above f h) (above h f) p a, b)))
-  by false false a b = a ∙ sym b
+pub same_or_cross : (above : ℕ → ℕ → Bool) (f f2 h h2 : ℕ) → IsCompared above f h → IsCompared above f2 h2
+    → (above f h ≡ above f2 h2) ⊎ Cross above f f2 h h2
+same_or_cross above f f2 h h2 p q = by (above f h) (above f2 h2) refl refl where
+  by : (v w : Bool) → above f h ≡ v → above f2 h2 ≡ w → (above f h ≡ above f2 h2) ⊎ Cross above f f2 h h2
+  by true true a b = inl (a ∙ sym b)
+  by true false a b = inr (inr (a, turned (above f2 h2) (above h2 f2) q b))
+  by false true a b = inr (inl (turned (above f h) (above h f) p a, b))
+  by false false a b = inl (a ∙ sym b)
+
+-- ---- whether two pairs interleave is told
+
+told : (b : Bool) → IsTrue b ⊎ (IsTrue b → ⊥)
+told true = inl refl
+told false = inr (λ t. false≢true t)
+
+both_told : {A B : Type 0} → A ⊎ (A → ⊥) → B ⊎ (B → ⊥) → (A × B) ⊎ (A × B → ⊥)
+both_told (inl a) (inl b) = inl (a, b)
+both_told (inl a) (inr n) = inr (λ x. n x.1)
+both_told (inr n) b = inr (λ x. n x.0)
+
+either_told : {A B : Type 0} → A ⊎ (A → ⊥) → B ⊎ (B → ⊥) → (A ⊎ B) ⊎ (A ⊎ B → ⊥)
+either_told {A} {B} (inl a) b = inl (inl a)
+either_told {A} {B} (inr n) (inl b) = inl (inr b)
+either_told {A} {B} (inr n) (inr m) = inr neither where
+  neither : A ⊎ B → ⊥
+  neither (inl a) = n a
+  neither (inr b) = m b
+
+pub interleave_told : (above : ℕ → ℕ → Bool) (x y z u : ℕ)
+    → Interleave above x y z u ⊎ (Interleave above x y z u → ⊥)
+interleave_told above x y z u = either_told (both_told (among z) (beyond u)) (both_told (beyond z) (among u)) where
+  among : (v : ℕ) → IsAmong above x y v ⊎ (IsAmong above x y v → ⊥)
+  among v = either_told (both_told (told (above v x)) (told (above y v))) (both_told (told (above v y)) (told (above x v)))
+
+  beyond : (v : ℕ) → IsBeyond above x y v ⊎ (IsBeyond above x y v → ⊥)
+  beyond v = either_told (both_told (told (above x v)) (told (above y v))) (both_told (told (above v x)) (told (above v y)))
 
 -- ---- the other way
 

@@ -1,6 +1,6 @@
 -- Each chord at a plain border place has a form that is there, and each form that is there is a chord
 -- between faces that cover their sides.
-use Rattle.std.proofs.Common.{◌≡◌, ℕ, ◌⊎◌, inl, inr, Bool, true, false, List, subst, ap, ◌∙◌, IsTrue, Contains}
+use Rattle.std.proofs.Common.{◌≡◌, ℕ, ◌⊎◌, inl, inr, Bool, true, false, List, refl, subst, ap, ◌∙◌, IsTrue, Contains}
 use Rattle.std.proofs.lemmas.Bool.{and_from, or_left}
 use Rattle.ff_whole.specs.declared.places.Place.{Place}
 use Rattle.ff_types.specs.Foldings.{is_folded}
@@ -11,8 +11,10 @@ use Rattle.ff_types.specs.Covering.{covers_left, covers_right}
 use Rattle.ff_types.specs.Cites.{is_flat, lesser, greater}
 use Rattle.ff_types.specs.Crossings.{Side, chords, Alternate}
 use Rattle.ff_crossings.specs.ChordMembers.{IsEdgeChord}
+use Rattle.ff_crossings.specs.Crossed.{Bearer, IsChordOf}
+use Rattle.ff_crossings.specs.Crossed.Bearer.{OfFace, OfEdge}
 use Rattle.ff_crossings.proofs.BorderLaws.{HasBorderLaws}
-use Rattle.ff_crossings.proofs.ChordLists.{in_chords, face_chord_in}
+use Rattle.ff_crossings.proofs.ChordLists.{in_chords}
 use Rattle.ff_crossings.proofs.EdgeFaces.{folded_or_flat, number_edge, covers_its_left, covers_its_right}
 use Rattle.ff_crossings.proofs.ChordForms.{Form, left_of, right_of, ends, swapped, IsFlatThere, IsLeftThere, IsRightThere, IsThere, HasForm, IsInnerThere, folded_there, flat_there, lesser_ring, greater_ring, own, own_chord, own_of, flat_own, left_own, right_own, flat_form, folded_form}
 use Rattle.ff_crossings.proofs.ChordForms.Form.{Face, Flat, LeftCap, RightCap}
@@ -26,12 +28,19 @@ module _ (c d x : Side × Side) where
   through_same (inr p) (inl q) = inr (p ∙ ap swapped q)
   through_same (inr p) (inr q) = inl (p ∙ ap swapped q)
 
-in_same : (list : List (Side × Side)) (d x : Side × Side) → Contains list d ⊎ Contains list (swapped d)
-    → (d ≡ x) ⊎ (d ≡ swapped x) → Contains list x ⊎ Contains list (swapped x)
-in_same list d x (inl m) (inl q) = inl (subst (λ z. Contains list z) q m)
-in_same list d x (inl m) (inr q) = inr (subst (λ z. Contains list z) q m)
-in_same list d x (inr m) (inl q) = inr (subst (λ z. Contains list (swapped z)) q m)
-in_same list d x (inr m) (inr q) = inl (subst (λ z. Contains list (swapped z)) q m)
+in_same : (P : Side × Side → Type 0) (d x : Side × Side) → P d ⊎ P (swapped d) → (d ≡ x) ⊎ (d ≡ swapped x)
+    → P x ⊎ P (swapped x)
+in_same P d x (inl m) (inl q) = inl (subst P q m)
+in_same P d x (inl m) (inr q) = inr (subst P q m)
+in_same P d x (inr m) (inl q) = inr (subst (λ z. P (swapped z)) q m)
+in_same P d x (inr m) (inr q) = inl (subst (λ z. P (swapped z)) q m)
+
+-- the face or the edge of a form
+abbrev pub bearer_of : Form → Bearer
+bearer_of (Face f) = OfFace f
+bearer_of (Flat b k) = OfEdge k
+bearer_of (LeftCap k) = OfEdge k
+bearer_of (RightCap k) = OfEdge k
 
 module _ (g : Sheet) (laws : HasBorderLaws g) (e : ℕ) (s : Place) (plain : IsPlainBorder g e s) where
   -- ---- each chord has a form
@@ -83,36 +92,39 @@ module _ (g : Sheet) (laws : HasBorderLaws g) (e : ℕ) (s : Place) (plain : IsP
 
   -- ---- each form that is there is a chord
 
-  chord_of : (f : Form) → IsThere g e s f → Contains (chords g e s) (ends g f) ⊎ Contains (chords g e s)
-      (swapped (ends g f))
-  chord_of (Face f) t = inl (face_chord_in g e s f t)
+  chord_of : (f : Form) → IsThere g e s f → IsChordOf g e s (bearer_of f) (ends g f)
+      ⊎ IsChordOf g e s (bearer_of f) (swapped (ends g f))
+  chord_of (Face f) t = inl (record { face = f; inside = t; same = refl }, refl)
   chord_of (Flat b k) t =
       let there = flat_there g laws e s plain k t.flat t.on in
-      in_same (chords g e s) (own g laws e s plain k there) (ends g (Flat b k))
+      in_same (IsChordOf g e s (OfEdge k)) (own g laws e s plain k there) (ends g (Flat b k))
       (own_chord g laws e s plain k there) (flat_own g laws e s plain k there b t)
   chord_of (LeftCap k) t =
       let there = folded_there g laws e s plain k t.folded t.on in
-      in_same (chords g e s) (own g laws e s plain k there) (ends g (LeftCap k))
+      in_same (IsChordOf g e s (OfEdge k)) (own g laws e s plain k there) (ends g (LeftCap k))
       (own_chord g laws e s plain k there) (inl (left_own g laws e s plain k there t))
   chord_of (RightCap k) t =
       let there = folded_there g laws e s plain k t.folded t.on in
-      in_same (chords g e s) (own g laws e s plain k there) (ends g (RightCap k))
+      in_same (IsChordOf g e s (OfEdge k)) (own g laws e s plain k there) (ends g (RightCap k))
       (own_chord g laws e s plain k there) (inl (right_own g laws e s plain k there t))
 
-  -- of two forms that are there the chords don't alternate, where no two chords of the list do
-  pub apart_forms : (circ : List Side)
-      → ((c d : Side × Side) → Contains (chords g e s) c → Contains (chords g e s) d → Alternate circ c d → ⊥)
-      → (f h : Form) → IsThere g e s f → IsThere g e s h → Alternate circ (ends g f) (ends g h) → ⊥
-  apart_forms circ apart f h p q a = by (chord_of f p) (chord_of h q) where
-    by : Contains (chords g e s) (ends g f) ⊎ Contains (chords g e s) (swapped (ends g f)) → Contains
-        (chords g e s) (ends g h) ⊎ Contains (chords g e s) (swapped (ends g h)) → ⊥
-    by (inl m) (inl n) = apart (ends g f) (ends g h) m n a
+  -- where two forms that are there alternate, so do two chords of their face or edge
+  pub crossed_forms : {A : Type 0} (circ : List Side) (f h : Form)
+      → ((c d : Side × Side) → IsChordOf g e s (bearer_of f) c → IsChordOf g e s (bearer_of h) d
+      → Alternate circ c d → A)
+      → IsThere g e s f → IsThere g e s h → Alternate circ (ends g f) (ends g h) → A
+  crossed_forms {A} circ f h crossed p q a = by (chord_of f p) (chord_of h q) where
+    by : IsChordOf g e s (bearer_of f) (ends g f) ⊎ IsChordOf g e s (bearer_of f) (swapped (ends g f))
+        → IsChordOf g e s (bearer_of h) (ends g h) ⊎ IsChordOf g e s (bearer_of h) (swapped (ends g h)) → A
+    by (inl m) (inl n) = crossed (ends g f) (ends g h) m n a
     by (inl m) (inr n) =
-        apart (ends g f) (swapped (ends g h)) m n (swap_second circ (ends g f) (ends g h).0 (ends g h).1 a)
+        crossed (ends g f) (swapped (ends g h)) m n
+        (swap_second circ (ends g f) (ends g h).0 (ends g h).1 a)
     by (inr m) (inl n) =
-        apart (swapped (ends g f)) (ends g h) m n (swap_first circ (ends g f).0 (ends g f).1 (ends g h) a)
+        crossed (swapped (ends g f)) (ends g h) m n
+        (swap_first circ (ends g f).0 (ends g f).1 (ends g h) a)
     by (inr m) (inr n) =
-        apart (swapped (ends g f)) (swapped (ends g h)) m n
+        crossed (swapped (ends g f)) (swapped (ends g h)) m n
         (swap_second circ (swapped (ends g f)) (ends g h).0 (ends g h).1
         (swap_first circ (ends g f).0 (ends g f).1 (ends g h) a))
 

@@ -1,13 +1,15 @@
--- What it says of the order of faces at a plain border place that no two chords there alternate.
-use Rattle.std.proofs.Common.{◌≡◌, ◌≢◌, ℕ, ◌<◌, Bool, true, false, List, length, IsTrue, Contains}
+-- What the order of faces at a plain border place says, or else two chords there alternate.
+use Rattle.std.proofs.Common.{◌≡◌, ◌≢◌, ℕ, ◌<◌, ◌⊎◌, inl, inr, Bool, true, false, List, length, IsTrue, Contains}
 use Rattle.ff_whole.specs.declared.places.Place.{Place}
 use Rattle.ff_types.specs.Sheets.{Sheet, bounds}
 use Rattle.ff_types.specs.Inside.{is_inside}
 use Rattle.ff_types.specs.Borders.{IsPlainBorder}
 use Rattle.ff_types.specs.Covering.{covers_left, covers_right, left_faces, right_faces}
 use Rattle.ff_types.specs.Cites.{lesser, greater}
-use Rattle.ff_types.specs.Stackings.{IsListing}
-use Rattle.ff_types.specs.Crossings.{circle, Alternate, IsGeometricStacking}
+use Rattle.ff_types.specs.Stackings.{IsListing, IsStacking}
+use Rattle.ff_types.specs.Crossings.{circle, Alternate}
+use Rattle.ff_crossings.specs.Crossed.{AreCrossed}
+use Rattle.ff_crossings.specs.Crossed.Bearer.{OfFace, OfEdge}
 use Rattle.ff_crossings.specs.Alternating.{Interleave, AreListed}
 use Rattle.ff_crossings.proofs.BorderLaws.{HasBorderLaws}
 use Rattle.ff_crossings.proofs.AlternatingChords.{cross_throughs, among_left_cap, among_right_cap, interleave_left_caps, interleave_right_caps}
@@ -15,37 +17,53 @@ use Rattle.ff_crossings.proofs.ChordLists.{inside_face}
 use Rattle.ff_crossings.proofs.EdgeFaces.{bounds_first, bounds_second, folded_number, flat_number, left_member, right_member, folded_flat_differ}
 use Rattle.ff_crossings.proofs.ChordForms.{Form, left_of, right_of, ends, IsFlatThere, IsLeftThere, IsRightThere, IsThere, folded_there, flat_there, beside_of, lesser_outside, greater_outside}
 use Rattle.ff_crossings.proofs.ChordForms.Form.{Face, Flat, LeftCap, RightCap}
-use Rattle.ff_crossings.proofs.FormChords.{apart_forms, face_covers_left, face_covers_right, flat_covers_left, flat_covers_right, left_covers, right_covers}
-use Rattle.ff_crossings.proofs.Comparing.{not_among, not_cross, one_way, left_compared, right_compared, outside_differs, edges_differ}
+use Rattle.ff_crossings.proofs.FormChords.{bearer_of, crossed_forms, face_covers_left, face_covers_right, flat_covers_left, flat_covers_right, left_covers, right_covers}
+use Rattle.ff_crossings.proofs.Comparing.{same_or_among, same_or_cross, one_way, left_compared, right_compared, outside_differs, edges_differ}
 
-module _ (g : Sheet) (laws : HasBorderLaws g) (above : ℕ → ℕ → Bool) (geo : IsGeometricStacking g above)
+on_right : {A B C : Type 0} → A ⊎ B → (B → C) → A ⊎ C
+on_right (inl a) f = inl a
+on_right (inr b) f = inr (f b)
+
+module _ (g : Sheet) (laws : HasBorderLaws g) (above : ℕ → ℕ → Bool) (stacking : IsStacking g above)
     (e : ℕ) (s : Place) (plain : IsPlainBorder g e s) where
   -- ---- the two sides are listed
 
   abbrev left : List ℕ
-  left = (geo.stacking.left e s plain).0
+  left = (stacking.left e s plain).0
 
   left_is : IsListing above (left_faces g e s) left
-  left_is = (geo.stacking.left e s plain).1
+  left_is = (stacking.left e s plain).1
 
   abbrev right : List ℕ
-  right = (geo.stacking.right e s plain).0
+  right = (stacking.right e s plain).0
 
   right_is : IsListing above (right_faces g e s) right
-  right_is = (geo.stacking.right e s plain).1
+  right_is = (stacking.right e s plain).1
 
   listed : AreListed above left right
   listed = record {
-    one_way = one_way g above geo.stacking.orders;
+    one_way = one_way g above stacking.orders;
     left_rises = left_is.rises;
     right_rises =
         right_is.rises;
   }
 
-  apart : (f h : Form) → IsThere g e s f → IsThere g e s h → Alternate (circle left right) (ends g f)
-      (ends g h) → ⊥
-  apart = apart_forms g laws e s plain (circle left right)
-      (geo.uncrossed e s plain left right left_is right_is)
+  crossed : (f h : Form) → IsThere g e s f → IsThere g e s h → Alternate (circle left right) (ends g f)
+      (ends g h) → AreCrossed g above (bearer_of f) (bearer_of h)
+  crossed f h = crossed_forms g laws e s plain (circle left right) f h (λ c d m n a. record {
+    edge = e;
+    at = s;
+    plain = plain;
+    left = left;
+    right = right;
+    left_is = left_is;
+    right_is = right_is;
+    chord = c;
+    other = d;
+    chord_is = m;
+    other_is = n;
+    alternate = a;
+  })
 
   left_in : (f : ℕ) → f < length g.rings → IsTrue (covers_left g e s f) → Contains left f
   left_in f h t = (left_is.same f).1 (left_member g e f s h t)
@@ -90,14 +108,14 @@ module _ (g : Sheet) (laws : HasBorderLaws g) (above : ℕ → ℕ → Bool) (ge
 
   -- ---- a face, or two, and a flat edge
 
-  pub flat_face : (b : Bool) (k t : ℕ) → IsFlatThere g e s b k → IsTrue (is_inside g t s) → above
-      (left_of g b k) t ≡ above (right_of g b k) t
-  flat_face b k t p i = not_cross above (left_of g b k) (right_of g b k) t t
-      (left_compared g above geo.stacking.orders laws e s plain (left_of g b k) t cl tl
+  pub flat_face : (b : Bool) (k t : ℕ) → IsFlatThere g e s b k → IsTrue (is_inside g t s)
+      → (above (left_of g b k) t ≡ above (right_of g b k) t) ⊎ AreCrossed g above (OfEdge k) (OfFace t)
+  flat_face b k t p i = on_right (same_or_cross above (left_of g b k) (right_of g b k) t t
+      (left_compared g above stacking.orders laws e s plain (left_of g b k) t cl tl
       (outside_differs g s (left_of g b k) t (flat_left_outside k b p) i))
-      (right_compared g above geo.stacking.orders laws e s plain (right_of g b k) t cr tr
-      (outside_differs g s (right_of g b k) t (flat_right_outside k b p) i))
-      (λ x. apart (Flat b k) (Face t) p i
+      (right_compared g above stacking.orders laws e s plain (right_of g b k) t cr tr
+      (outside_differs g s (right_of g b k) t (flat_right_outside k b p) i)))
+      (λ x. crossed (Flat b k) (Face t) p i
       (cross_throughs above left right listed (left_of g b k) (right_of g b k) t t
       (left_in (left_of g b k) (flat_left_face k b p) cl)
       (right_in (right_of g b k) (flat_right_face k b p) cr) (left_in t (inside_face g t s i) tl)
@@ -114,16 +132,17 @@ module _ (g : Sheet) (laws : HasBorderLaws g) (above : ℕ → ℕ → Bool) (ge
         tr : IsTrue (covers_right g e s t)
         tr = face_covers_right g laws e s plain t i
 
-  pub flat_flat : (b c : Bool) (k l : ℕ) → k ≢ l → IsFlatThere g e s b k → IsFlatThere g e s c l → above
-      (left_of g b k) (left_of g c l) ≡ above (right_of g b k) (right_of g c l)
-  flat_flat b c k l d p q = not_cross above (left_of g b k) (right_of g b k) (left_of g c l) (right_of g c l)
-      (left_compared g above geo.stacking.orders laws e s plain (left_of g b k) (left_of g c l) kl ll
+  pub flat_flat : (b c : Bool) (k l : ℕ) → k ≢ l → IsFlatThere g e s b k → IsFlatThere g e s c l
+      → (above (left_of g b k) (left_of g c l) ≡ above (right_of g b k) (right_of g c l))
+      ⊎ AreCrossed g above (OfEdge k) (OfEdge l)
+  flat_flat b c k l d p q = on_right (same_or_cross above (left_of g b k) (right_of g b k) (left_of g c l) (right_of g c l)
+      (left_compared g above stacking.orders laws e s plain (left_of g b k) (left_of g c l) kl ll
       (edges_differ g laws e k l s plain (flat_number g k p.flat) (flat_number g l q.flat) p.on q.on d
       (left_of g b k) (left_of g c l) (flat_left_bounds k b p) (flat_left_bounds l c q)))
-      (right_compared g above geo.stacking.orders laws e s plain (right_of g b k) (right_of g c l) kr lr
+      (right_compared g above stacking.orders laws e s plain (right_of g b k) (right_of g c l) kr lr
       (edges_differ g laws e k l s plain (flat_number g k p.flat) (flat_number g l q.flat) p.on q.on d
-      (right_of g b k) (right_of g c l) (flat_right_bounds k b p) (flat_right_bounds l c q)))
-      (λ x. apart (Flat b k) (Flat c l) p q
+      (right_of g b k) (right_of g c l) (flat_right_bounds k b p) (flat_right_bounds l c q))))
+      (λ x. crossed (Flat b k) (Flat c l) p q
       (cross_throughs above left right listed (left_of g b k) (right_of g b k) (left_of g c l)
       (right_of g c l) (left_in (left_of g b k) (flat_left_face k b p) kl)
       (right_in (right_of g b k) (flat_right_face k b p) kr)
@@ -158,40 +177,43 @@ module _ (g : Sheet) (laws : HasBorderLaws g) (above : ℕ → ℕ → Bool) (ge
     left_bounds = let b = beside_of g laws e s plain k (folded_there g laws e s plain k p.folded p.on) in
         (bounds_first g k (lesser g k) (greater g k) b, bounds_second g k (lesser g k) (greater g k) b)
 
-    pub left_cap_face : (t : ℕ) → IsTrue (is_inside g t s) → above (lesser g k) t ≡ above (greater g k) t
+    pub left_cap_face : (t : ℕ) → IsTrue (is_inside g t s)
+        → (above (lesser g k) t ≡ above (greater g k) t) ⊎ AreCrossed g above (OfEdge k) (OfFace t)
     left_cap_face t i = let c = left_covers g laws e s plain k p in
         let tl = face_covers_left g laws e s plain t i in
         let there = folded_there g laws e s plain k p.folded p.on in
-        not_among above (lesser g k) (greater g k) t
-        (left_compared g above geo.stacking.orders laws e s plain (lesser g k) t c.0 tl
+        on_right (same_or_among above (lesser g k) (greater g k) t
+        (left_compared g above stacking.orders laws e s plain (lesser g k) t c.0 tl
         (outside_differs g s (lesser g k) t (lesser_outside g laws e s plain k there) i))
-        (left_compared g above geo.stacking.orders laws e s plain (greater g k) t c.1 tl
-        (outside_differs g s (greater g k) t (greater_outside g laws e s plain k there) i))
-        (λ x. apart (LeftCap k) (Face t) p i
+        (left_compared g above stacking.orders laws e s plain (greater g k) t c.1 tl
+        (outside_differs g s (greater g k) t (greater_outside g laws e s plain k there) i)))
+        (λ x. crossed (LeftCap k) (Face t) p i
         (among_left_cap above left right listed (lesser g k) (greater g k) t t left_lesser left_greater
         (left_in t (inside_face g t s i) tl)
         (right_in t (inside_face g t s i) (face_covers_right g laws e s plain t i)) x))
 
-    pub left_cap_flat : (b : Bool) (l : ℕ) → IsFlatThere g e s b l → above (lesser g k)
-        (left_of g b l) ≡ above (greater g k) (left_of g b l)
+    pub left_cap_flat : (b : Bool) (l : ℕ) → IsFlatThere g e s b l
+        → (above (lesser g k) (left_of g b l) ≡ above (greater g k) (left_of g b l))
+        ⊎ AreCrossed g above (OfEdge k) (OfEdge l)
     left_cap_flat b l q =
         let c = left_covers g laws e s plain k p in let tl = flat_covers_left g laws e s plain b l q in
         let differ = edges_differ g laws e k l s plain (folded_number g k p.folded)
         (flat_number g l q.flat) p.on q.on (folded_flat_differ g k l p.folded q.flat) in
-        not_among above (lesser g k) (greater g k) (left_of g b l)
-        (left_compared g above geo.stacking.orders laws e s plain (lesser g k) (left_of g b l) c.0 tl
+        on_right (same_or_among above (lesser g k) (greater g k) (left_of g b l)
+        (left_compared g above stacking.orders laws e s plain (lesser g k) (left_of g b l) c.0 tl
         (differ (lesser g k) (left_of g b l) left_bounds.0 (flat_left_bounds l b q)))
-        (left_compared g above geo.stacking.orders laws e s plain (greater g k) (left_of g b l) c.1 tl
-        (differ (greater g k) (left_of g b l) left_bounds.1 (flat_left_bounds l b q)))
-        (λ x. apart (LeftCap k) (Flat b l) p q
+        (left_compared g above stacking.orders laws e s plain (greater g k) (left_of g b l) c.1 tl
+        (differ (greater g k) (left_of g b l) left_bounds.1 (flat_left_bounds l b q))))
+        (λ x. crossed (LeftCap k) (Flat b l) p q
         (among_left_cap above left right listed (lesser g k) (greater g k) (left_of g b l)
         (right_of g b l) left_lesser left_greater (left_in (left_of g b l) (flat_left_face l b q) tl)
         (right_in (right_of g b l) (flat_right_face l b q) (flat_covers_right g laws e s plain b l q)) x))
 
-  pub left_caps_apart : (k l : ℕ) → IsLeftThere g e s k → IsLeftThere g e s l → Interleave above (lesser g k)
-      (greater g k) (lesser g l) (greater g l) → ⊥
-  left_caps_apart k l p q x =
-      apart (LeftCap k) (LeftCap l) p q
+  pub left_caps_crossed : (k l : ℕ) → IsLeftThere g e s k → IsLeftThere g e s l
+      → Interleave above (lesser g k) (greater g k) (lesser g l) (greater g l)
+      → AreCrossed g above (OfEdge k) (OfEdge l)
+  left_caps_crossed k l p q x =
+      crossed (LeftCap k) (LeftCap l) p q
       (interleave_left_caps above left right listed (lesser g k) (greater g k) (lesser g l) (greater g l)
       (left_lesser k p) (left_greater k p) (left_lesser l q) (left_greater l q) x)
 
@@ -212,40 +234,43 @@ module _ (g : Sheet) (laws : HasBorderLaws g) (above : ℕ → ℕ → Bool) (ge
     right_bounds = let b = beside_of g laws e s plain k (folded_there g laws e s plain k p.folded p.on) in
         (bounds_first g k (lesser g k) (greater g k) b, bounds_second g k (lesser g k) (greater g k) b)
 
-    pub right_cap_face : (t : ℕ) → IsTrue (is_inside g t s) → above (lesser g k) t ≡ above (greater g k) t
+    pub right_cap_face : (t : ℕ) → IsTrue (is_inside g t s)
+        → (above (lesser g k) t ≡ above (greater g k) t) ⊎ AreCrossed g above (OfEdge k) (OfFace t)
     right_cap_face t i =
         let c = right_covers g laws e s plain k p in let tr = face_covers_right g laws e s plain t i in
         let there = folded_there g laws e s plain k p.folded p.on in
-        not_among above (lesser g k) (greater g k) t
-        (right_compared g above geo.stacking.orders laws e s plain (lesser g k) t c.0 tr
+        on_right (same_or_among above (lesser g k) (greater g k) t
+        (right_compared g above stacking.orders laws e s plain (lesser g k) t c.0 tr
         (outside_differs g s (lesser g k) t (lesser_outside g laws e s plain k there) i))
-        (right_compared g above geo.stacking.orders laws e s plain (greater g k) t c.1 tr
-        (outside_differs g s (greater g k) t (greater_outside g laws e s plain k there) i))
-        (λ x. apart (RightCap k) (Face t) p i
+        (right_compared g above stacking.orders laws e s plain (greater g k) t c.1 tr
+        (outside_differs g s (greater g k) t (greater_outside g laws e s plain k there) i)))
+        (λ x. crossed (RightCap k) (Face t) p i
         (among_right_cap above left right listed (lesser g k) (greater g k) t t right_lesser right_greater
         (left_in t (inside_face g t s i) (face_covers_left g laws e s plain t i))
         (right_in t (inside_face g t s i) tr) x))
 
-    pub right_cap_flat : (b : Bool) (l : ℕ) → IsFlatThere g e s b l → above (lesser g k)
-        (right_of g b l) ≡ above (greater g k) (right_of g b l)
+    pub right_cap_flat : (b : Bool) (l : ℕ) → IsFlatThere g e s b l
+        → (above (lesser g k) (right_of g b l) ≡ above (greater g k) (right_of g b l))
+        ⊎ AreCrossed g above (OfEdge k) (OfEdge l)
     right_cap_flat b l q =
         let c = right_covers g laws e s plain k p in let tr = flat_covers_right g laws e s plain b l q in
         let differ = edges_differ g laws e k l s plain (folded_number g k p.folded)
         (flat_number g l q.flat) p.on q.on (folded_flat_differ g k l p.folded q.flat) in
-        not_among above (lesser g k) (greater g k) (right_of g b l)
-        (right_compared g above geo.stacking.orders laws e s plain (lesser g k) (right_of g b l) c.0 tr
+        on_right (same_or_among above (lesser g k) (greater g k) (right_of g b l)
+        (right_compared g above stacking.orders laws e s plain (lesser g k) (right_of g b l) c.0 tr
         (differ (lesser g k) (right_of g b l) right_bounds.0 (flat_right_bounds l b q)))
-        (right_compared g above geo.stacking.orders laws e s plain (greater g k) (right_of g b l) c.1 tr
-        (differ (greater g k) (right_of g b l) right_bounds.1 (flat_right_bounds l b q)))
-        (λ x. apart (RightCap k) (Flat b l) p q
+        (right_compared g above stacking.orders laws e s plain (greater g k) (right_of g b l) c.1 tr
+        (differ (greater g k) (right_of g b l) right_bounds.1 (flat_right_bounds l b q))))
+        (λ x. crossed (RightCap k) (Flat b l) p q
         (among_right_cap above left right listed (lesser g k) (greater g k) (left_of g b l)
         (right_of g b l) right_lesser right_greater
         (left_in (left_of g b l) (flat_left_face l b q) (flat_covers_left g laws e s plain b l q))
         (right_in (right_of g b l) (flat_right_face l b q) tr) x))
 
-  pub right_caps_apart : (k l : ℕ) → IsRightThere g e s k → IsRightThere g e s l → Interleave above
-      (lesser g k) (greater g k) (lesser g l) (greater g l) → ⊥
-  right_caps_apart k l p q x =
-      apart (RightCap k) (RightCap l) p q
+  pub right_caps_crossed : (k l : ℕ) → IsRightThere g e s k → IsRightThere g e s l
+      → Interleave above (lesser g k) (greater g k) (lesser g l) (greater g l)
+      → AreCrossed g above (OfEdge k) (OfEdge l)
+  right_caps_crossed k l p q x =
+      crossed (RightCap k) (RightCap l) p q
       (interleave_right_caps above left right listed (lesser g k) (greater g k) (lesser g l) (greater g l)
       (right_lesser k p) (right_greater k p) (right_lesser l q) (right_greater l q) x)

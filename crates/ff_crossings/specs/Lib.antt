@@ -3,3 +3,4 @@ pub mod Alternating
 pub mod RowMeanings
 pub mod ChordMembers
 pub mod CrossingLaws
+pub mod Crossed

@@ -1,13 +1,11 @@
 -- The case of a folded sheet from its lists.
-use Rattle.std.proofs.Common.{◌≡◌, ◌≢◌, ◌⊎◌, inl, inr, ℕ, zero, suc, ◌+◌, ◌<◌, ◌≤◌, ◌↔◌, ◌∙◌, Bool, true, false, List, [], ◌∷◌, ◌++◌, length, length-append, map, slice_get, slice_index_or, Option, Some, None, IsTrue, refl, ap, sym, subst, arith}
+use Rattle.std.proofs.Common.{◌≡◌, inl, inr, ℕ, ◌+◌, ◌<◌, ◌∙◌, List, [], ◌∷◌, ◌++◌, length, map, slice_get, Option, Some, None, IsTrue, refl, ap, sym, subst, arith}
 use Rattle.std.proofs.lemmas.Bool.{false≢true}
-use Rattle.std.proofs.lemmas.List.{length-map}
-use Rattle.std.proofs.lemmas.Option.{slice_get_within, slice_get-get_or, get_or_from_slice_get}
-use Rattle.ff_whole.specs.declared.places.Place.{Place}
+use Rattle.std.proofs.lemmas.Option.{slice_get_within}
 use Rattle.ff_tables.specs.declared.terms.Constraint.{Constraint}
 use Rattle.ff_tables.specs.Orders.{term_at}
 use Rattle.ff_tables.specs.Rows.{arity}
-use Rattle.ff_tables.specs.Systems.{IsFit, AreFit}
+use Rattle.ff_tables.specs.Systems.{IsFit}
 use Rattle.ff_types.specs.declared.patterns.Pattern.{Pattern}
 use Rattle.ff_types.specs.declared.faces.Faces.{Faces}
 use Rattle.ff_types.specs.declared.faces.Folded.{Folded}
@@ -15,45 +13,22 @@ use Rattle.ff_types.specs.declared.cites.Cite.{Cite}
 use Rattle.ff_types.specs.declared.cites.Cite.TheVariants.{Transitivity, TacoTaco, TacoFace, TacoEdge, FlatFace, FlatEdge}
 use Rattle.ff_types.specs.declared.cites.Listed.{Listed}
 use Rattle.ff_types.specs.Faces.{list_before}
-use Rattle.ff_types.specs.Pairs.{AreSorted, StandsIn, in_order, number_of, place_in, pair_at}
+use Rattle.ff_types.specs.Pairs.{StandsIn, in_order, number_of, place_in, pair_at}
 use Rattle.ff_types.specs.Sheets.{Sheet, sheet_of}
-use Rattle.ff_types.specs.Cites.{Holds, Witnessed}
-use Rattle.ff_types.specs.Terms.{kind_of, terms_of}
-use Rattle.ff_types.specs.Cases.{key, IsTermOf, IsConstraintOf}
+use Rattle.ff_types.specs.Cites.{Holds, Witnessed, HasSmallPlaces, AreSmall}
+use Rattle.ff_types.specs.Terms.{terms_of}
+use Rattle.ff_types.specs.Cases.{key, IsConstraintOf}
 use Rattle.ff_types.specs.FoldedPatterns.{IsFoldedPattern}
 use Rattle.ff_types.proofs.SortedPairs.{place_stands}
 use Rattle.ff_borders.proofs.Terms.{terms_differ}
 use Rattle.ff_cases.proofs.CaseRows.{terms_counted}
 use Rattle.ff_cases.proofs.Alike.{mapped, unmapped}
+use Rattle.ff_cases.proofs.Behind.{in_first, in_second, Where, in_either}
 use Rattle.ff_cells.specs.declared.cell.Cell.{Cell}
 use Rattle.ff_cells.specs.FaceSets.{HaveFaceSets}
 use Rattle.ff_trans.specs.Triples.{AreTriples}
 use Rattle.ff_tacos.specs.Tacos.{AreTacos, is_of_edges}
 use Rattle.ff_types.specs.Splitting.{constraint_of, cite_of}
-
--- ---- a list behind another
-
-pub in_first : {A : Type 0} (xs ys : List A) (n : ℕ) (x : A) → slice_get xs n ≡ Some x → slice_get (xs ++ ys) n ≡ Some x
-in_first [] ys n x e = absurd (omega (arith, slice_get_within [] n x e))
-in_first (y ∷ xs) ys zero x e = e
-in_first (y ∷ xs) ys (suc n) x e = in_first xs ys n x e
-
-pub in_second : {A : Type 0} (xs ys : List A) (n : ℕ) (x : A) → slice_get ys n ≡ Some x → slice_get (xs ++ ys) (length xs + n) ≡ Some x
-in_second {A} [] ys n x e = let z : 0 + n ≡ n = omega arith in ap (slice_get ys) z ∙ e
-in_second {A} (y ∷ xs) ys n x e = let z : suc (length xs) + n ≡ suc (length xs + n) = omega arith in ap (slice_get (y ∷ (xs ++ ys))) z ∙ in_second xs ys n x e
-
--- where an item of the two stands
-pub Where : {A : Type 0} → List A → List A → ℕ → A → Type 0
-Where xs ys n x = (slice_get xs n ≡ Some x) ⊎ ((k : ℕ) × (n ≡ length xs + k) × (slice_get ys k ≡ Some x))
-
-pub in_either : {A : Type 0} (xs ys : List A) (n : ℕ) (x : A) → slice_get (xs ++ ys) n ≡ Some x → Where xs ys n x
-unfolding Where
-in_either [] ys n x e = inr (n, omega arith, e)
-in_either (y ∷ xs) ys zero x e = inl e
-in_either (y ∷ xs) ys (suc n) x e = elim (in_either xs ys n x e) [
-  | inl l ↦ inl l
-  | inr r ↦ inr (r.0, omega (arith, r.1), r.2)
-]
 
 -- ---- keys
 
@@ -86,6 +61,16 @@ module _ (g : Sheet) (cells : List Cell) (pairs : List (ℕ × ℕ)) (first seco
 
   pub all_hold : (n : ℕ) (c : Cite) → slice_get (map cite_of list) n ≡ Some c → Holds g c
   all_hold n c e = let l = cite_there n c e in subst (λ d. Holds g d) l.2 (witnessed_at n l.0 l.1).1
+
+  small_at : (n : ℕ) (l : Listed) → slice_get list n ≡ Some l → HasSmallPlaces l.cite
+  unfolding Where
+  small_at n l e = elim (which n l e) [
+    | inl a ↦ (triples.witnessed g sets).small n l a
+    | inr r ↦ (tacos.each r.0 l r.2).small
+  ]
+
+  pub all_small : AreSmall (map cite_of list)
+  all_small n c e = let l = cite_there n c e in subst HasSmallPlaces l.2 (small_at n l.0 l.1)
 
   constraint_at : (n : ℕ) (l : Listed) → slice_get list n ≡ Some l → IsConstraintOf g pairs l.cite l.constraint
   unfolding Where

@@ -1,11 +1,11 @@
 -- The case of a folded sheet from its pairs, constraints and starts.
-use Rattle.std.proofs.Common.{◌≡◌, ℕ, ◌<◌, ◌≤◌, ◌↔◌, ◌∙◌, List, length, map, slice_get, Some, Result, Ok, Err, IfOk, refl, ap, sym, subst, arith}
+use Rattle.std.proofs.Common.{◌≡◌, ℕ, ◌<◌, ◌≤◌, ◌↔◌, ◌∙◌, List, length, map, slice_get, Some, Result, Ok, Err, IfOk, ap, sym, subst, arith}
 use Rattle.std.proofs.lemmas.List.{length-map}
 use Rattle.std.specs.List.{filter_map}
 use Rattle.ff_tables.specs.declared.terms.Constraint.{Constraint}
 use Rattle.ff_tables.specs.declared.systems.System.{System}
 use Rattle.ff_tables.specs.declared.givens.Given.{Given}
-use Rattle.ff_tables.specs.Systems.{AreFit, IsFit}
+use Rattle.ff_tables.specs.Systems.{AreFit}
 use Rattle.ff_types.specs.declared.patterns.Pattern.{Pattern}
 use Rattle.ff_types.specs.declared.faces.Faces.{Faces}
 use Rattle.ff_types.specs.declared.faces.Folded.{Folded}
@@ -17,13 +17,16 @@ use Rattle.ff_types.specs.CaseFields.{AreCaseFields}
 use Rattle.ff_types.specs.Sheets.{Sheet, sheet_of, edges_of}
 use Rattle.ff_types.specs.Pairs.{AreSorted}
 use Rattle.ff_types.specs.Inside.{Overlap}
+use Rattle.ff_types.specs.Cites.{AreSmall}
 use Rattle.ff_types.specs.Cases.{key, start_of, IsCaseOf, IsConstraintOf}
 use Rattle.ff_types.specs.FoldedPatterns.{IsFoldedPattern}
 use Rattle.ff_types.specs.Splitting.{constraint_of, cite_of}
 use Rattle.ff_problem.specs.Limits.{IsWithinLimits}
 use Rattle.ff_problem.specs.Problems.{IsProblem}
-use Rattle.ff_problem.specs.Layers.{AreConstraints, IsCaseWithin}
-use Rattle.ff_problem.proofs.Assembly.{all_witnessed, all_hold, all_there, all_sorted, constraints_are, is_fit}
+use Rattle.ff_types.specs.declared.limits.TheConstants.{MOST_CONSTRAINTS}
+use Rattle.ff_tacos.specs.Tacos.{AddsTacos}
+use Rattle.ff_problem.specs.Layers.{AreLayers, AreConstraints, IsCaseWithin}
+use Rattle.ff_problem.proofs.Assembly.{all_small, all_witnessed, all_hold, all_there, all_sorted, constraints_are, is_fit}
 use Rattle.ff_problem.proofs.CreaseStarts.{starts_fit, by_creases, starts_rise}
 use Rattle.ff_problem.proofs.Counts.{no_more_pairs, no_more_constraints}
 use Rattle.ff_cases.proofs.Truth.{cases_are_true}
@@ -56,7 +59,10 @@ module _ {pattern : Pattern} {faces : Faces} {folded : Folded} (h : IsFoldedPatt
 
   pub is_case : (case : Case) → case.pairs ≡ pairs → case.system.constraints ≡ map constraint_of list → case.cites ≡ map cite_of list
       → case.starts ≡ filter_map (start_of g pairs) (edges_of g) → IsCaseWithin g case
-  is_case case ps cs ks s = record { is = is; within = within } where
+  is_case case ps cs ks s = record { is = is; small = small; within = within } where
+    small : AreSmall case.cites
+    small = subst AreSmall (sym ks) (all_small g c.layers.cells pairs c.triples c.tacos list c.layers.sets c.layers.triples c.are c.both)
+
     is : IsCaseOf g case
     is = record {
       sorted_pairs = subst AreSorted (sym ps) c.layers.sorted;
@@ -84,3 +90,14 @@ pub problem_from : {pattern : Pattern} {faces : Faces} {folded : Folded} → IsF
     → IfOk r (IsProblem pattern faces folded)
 problem_from h (Ok case) made = record { folds = h; within = made.within; case_is = made.is; true_to = cases_are_true h case made.is }
 problem_from h (Err n) made = tt
+
+-- whose cites have small places
+pub small_from : (g : Sheet) (r : Result Case No) → IfOk r (IsCaseWithin g) → IfOk r (λ case. AreSmall case.cites)
+small_from g (Ok case) made = made.small
+small_from g (Err n) made = tt
+
+-- all constraints, where those of edges come to those of cells
+pub constraints_from : (g : Sheet) (pairs : List (ℕ × ℕ)) (list : List Listed) → AreLayers g pairs list → (r : Result (List Listed) No) → IfOk r (AddsTacos g pairs list)
+    → IfOk r (λ l. length l ≤ MOST_CONSTRAINTS) → IfOk r (AreConstraints g pairs)
+constraints_from g pairs list layers (Ok l) adds few = record { triples = list; tacos = adds.tacos; layers = layers; are = adds.are; both = adds.appended; few = few }
+constraints_from g pairs list layers (Err n) adds few = tt

@@ -1,5 +1,5 @@
 -- A pattern comes to one case, or has one refusal.
-use Rattle.std.proofs.Common.{◌≡◌, ◌⊎◌, inl, inr, ℕ, ℤ, ◌<◌, ◌≤◌, ◌∙◌, Bool, List, [], ◌∷◌, length, slice_get, Option, Some, None, refl, ap, sym, subst, arith}
+use Rattle.std.proofs.Common.{◌≡◌, inl, inr, ℕ, ℤ, ◌<◌, ◌≤◌, ◌∙◌, Bool, List, length, Option, Some, None, refl, ap, sym, subst, arith}
 use Rattle.std.proofs.lemmas.Option.{slice_get_within, get_or_from_slice_get}
 use Rattle.ff_whole.specs.declared.points.Pt.{Pt}
 use Rattle.ff_types.specs.declared.patterns.Pattern.{Pattern}
@@ -9,10 +9,9 @@ use Rattle.ff_types.specs.declared.patterns.Mark.TheVariants.{B}
 use Rattle.ff_types.specs.declared.faces.EdgeSides.{EdgeSides}
 use Rattle.ff_types.specs.declared.faces.Faces.{Faces}
 use Rattle.ff_types.specs.declared.faces.Folded.{Folded}
-use Rattle.ff_types.specs.declared.cases.Case.{Case}
 use Rattle.ff_types.specs.declared.refusals.Refusal.{Refusal}
 use Rattle.ff_types.specs.Patterns.{edge_at}
-use Rattle.ff_types.specs.Faces.{AreRings, Belongs, ring_at, mark_at}
+use Rattle.ff_types.specs.Faces.{ring_at}
 use Rattle.ff_types.specs.Rings.{Goes}
 use Rattle.ff_types.specs.Drawings.{IsDrawing}
 use Rattle.ff_types.specs.Sides.{AreFaces, AreSides, IsFaceOf, IsMarkOf, sides_at}
@@ -33,7 +32,8 @@ use Rattle.ff_reflect.specs.Sheets.{paper_of}
 use Rattle.ff_reflect.specs.Laws.{IsSameFolding}
 use Rattle.ff_reflect.proofs.OneFolding.{one_folding}
 use Rattle.ff_reflect.proofs.OneRefusal.{one_refusal as one_unfolded_refusal}
-use Rattle.ff_reflect.proofs.Refused.{refused_folds_not}
+use Rattle.ff_reflect.proofs.Refused.{refused_folds_not, none_near}
+use Rattle.ff_reflect.specs.Folding.{IsRefused}
 use Rattle.ff_problem.specs.Limits.{RefusesCase, IsWithinLimits}
 use Rattle.ff_problem.specs.Problems.{IsProblem, RefusesAsDrawn}
 use Rattle.ff_problem.specs.Laws.{ProblemIsOne, ProblemsAreNotRefused, ProblemRefusalIsOne}
@@ -170,11 +170,11 @@ drawn_or_folded : {A : Type 0} (p : Pattern) (faces : Faces) (r : Refusal) → A
 drawn_or_folded p faces r a b = absurd (not_refused p.points p.edges p.marks (graph_of p.points p.edges p.marks p.valid) faces a r b)
 
 unfolded_or_folded : {A : Type 0} (p : Pattern) (faces others : Faces) (folded : Folded) (r : Refusal) → IsFoldedPattern p faces folded → AreGiven p.points p.edges p.marks others
-    → RefusesFolding p.points others.rings p.edges others.sides others.marks r → A
+    → IsRefused p others r → A
 unfolded_or_folded p faces others folded r a g b =
     let same = same_faces p.points p.edges p.marks faces others a.drawing a.faces_are g.faces_are in
-    let there = subst (λ (fs : Faces). RefusesFolding p.points fs.rings p.edges fs.sides fs.marks r) (sym same) b in
-    absurd (refused_folds_not (paper_of p faces) (record { drawing = a.drawing; faces = a.faces_are }) r there folded.scale folded.points folded.up a.folding a.near)
+    let there = subst (λ (fs : Faces). IsRefused p fs r) (sym same) b in
+    absurd (none_near p faces r there.none folded.scale folded.points folded.up a.folding a.near)
 
 layered_there : (p : Pattern) (faces others : Faces) (folded other : Folded) (r : Refusal) → IsFoldedPattern p faces folded → IsFoldedPattern p others other
     → RefusesCase (sheet_of p others other) r → RefusesCase (sheet_of p faces folded) r
@@ -195,7 +195,7 @@ problem_refusal_is_one p r s (inr (inl (faces, g, b))) (inl a) = drawn_or_folded
 problem_refusal_is_one p r s (inr (inr (faces, folded, f, b))) (inl a) = drawn_or_folded p faces s (given_of p faces folded f) a
 problem_refusal_is_one p r s (inr (inl (faces, g, b))) (inr (inl (others, h, c))) =
     let same = same_faces p.points p.edges p.marks faces others g.drawing g.faces_are h.faces_are in
-    one_unfolded_refusal (paper_of p others) (record { drawing = h.drawing; faces = h.faces_are }) r s (subst (λ (fs : Faces). RefusesFolding p.points fs.rings p.edges fs.sides fs.marks r) same b) c
+    one_unfolded_refusal (paper_of p others) (record { drawing = h.drawing; faces = h.faces_are }) r s (subst (λ (fs : Faces). RefusesFolding p.points fs.rings p.edges fs.sides fs.marks r) same b.stop) c.stop
 problem_refusal_is_one p r s (inr (inl (others, g, b))) (inr (inr (faces, folded, f, c))) = unfolded_or_folded p faces others folded r f g b
 problem_refusal_is_one p r s (inr (inr (faces, folded, f, c))) (inr (inl (others, g, b))) = unfolded_or_folded p faces others folded s f g b
 problem_refusal_is_one p r s (inr (inr (faces, folded, f, c))) (inr (inr (others, other, h, d))) =

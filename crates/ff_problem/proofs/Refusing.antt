@@ -1,5 +1,5 @@
 -- Why a folded sheet has no case, from the lists that are too long.
-use Rattle.std.proofs.Common.{◌≡◌, ◌≢◌, ◌⊎◌, inl, inr, ℕ, zero, suc, ◌+◌, ◌<◌, ◌≤◌, ◌∙◌, Bool, true, false, ◌&&◌, ◌||◌, List, [], ◌∷◌, ◌++◌, length, length-append, map, slice_get, slice_index, Option, Some, None, IsTrue, if◌then◌else◌, refl, ap, sym, subst, arith}
+use Rattle.std.proofs.Common.{◌≡◌, ◌≢◌, ◌⊎◌, inl, inr, ℕ, ◌<◌, ◌∙◌, Bool, true, false, ◌&&◌, ◌||◌, List, [], ◌∷◌, ◌++◌, length, length-append, map, slice_get, slice_index, Some, IsTrue, refl, ap, sym, subst, arith}
 use Rattle.std.proofs.lemmas.Bool.{false≢true}
 use Rattle.std.proofs.lemmas.List.{length-map}
 use Rattle.ff_types.specs.declared.patterns.Pattern.{Pattern}
@@ -16,9 +16,8 @@ use Rattle.ff_types.specs.declared.refusals.No.{No}
 use Rattle.ff_types.specs.declared.refusals.No.TheVariants as no
 use Rattle.ff_types.specs.Faces.{list_before}
 use Rattle.ff_types.specs.Pairs.{is_before}
-use Rattle.ff_types.specs.Sheets.{Sheet, sheet_of, mark_of, is_edge}
-use Rattle.ff_types.specs.Foldings.{is_folded}
-use Rattle.ff_types.specs.Cites.{Holds, is_flat, is_folded_edge, is_flat_edge, on_one_side}
+use Rattle.ff_types.specs.Sheets.{Sheet, sheet_of, mark_of}
+use Rattle.ff_types.specs.Cites.{Holds, is_folded_edge, is_flat_edge, on_one_side}
 use Rattle.ff_types.specs.Cases.{key}
 use Rattle.ff_types.specs.Segments.{ShareSegment, HasEdgeInside}
 use Rattle.ff_types.specs.FoldedPatterns.{IsFoldedPattern}

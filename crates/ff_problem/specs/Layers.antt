@@ -6,6 +6,7 @@ use Rattle.ff_types.specs.declared.cases.Case.{Case}
 use Rattle.ff_types.specs.Pairs.{AreSorted}
 use Rattle.ff_types.specs.Sheets.{Sheet}
 use Rattle.ff_types.specs.Inside.{Overlap}
+use Rattle.ff_types.specs.Cites.{AreSmall}
 use Rattle.ff_types.specs.Cases.{IsCaseOf}
 use Rattle.ff_cells.specs.declared.cell.Cell.{Cell}
 use Rattle.ff_cells.specs.FaceSets.{HaveFaceSets, IsFaceList}
@@ -48,7 +49,8 @@ pub record AreConstraints (g : Sheet) (pairs : List (ℕ × ℕ)) (list : List L
   pub both : list ≡ triples ++ tacos
   pub few : length list ≤ MOST_CONSTRAINTS
 
--- the case of a sheet within the limits
+-- the case of a sheet within the limits, whose cites have small places
 pub record IsCaseWithin (g : Sheet) (case : Case) : Type 0 where
   pub is : IsCaseOf g case
+  pub small : AreSmall case.cites
   pub within : IsWithinLimits g

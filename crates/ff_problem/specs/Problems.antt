@@ -1,5 +1,5 @@
 -- What a crease pattern comes to: its faces, its folding and its case; or why it comes to none. This project's own.
-use Rattle.std.specs.Prelude.{ℕ, ◌⊎◌}
+use Rattle.std.specs.Prelude.{◌⊎◌}
 use Rattle.ff_types.specs.declared.patterns.Pattern.{Pattern}
 use Rattle.ff_types.specs.declared.faces.Faces.{Faces}
 use Rattle.ff_types.specs.declared.faces.Folded.{Folded}
@@ -8,12 +8,12 @@ use Rattle.ff_types.specs.declared.refusals.Refusal.{Refusal}
 use Rattle.ff_types.specs.declared.refusals.No.{No}
 use Rattle.ff_types.specs.declared.refusals.No.TheVariants as no
 use Rattle.ff_types.specs.FaceRefusals.{RefusesFaces}
-use Rattle.ff_types.specs.FoldRefusals.{RefusesFolding}
 use Rattle.ff_types.specs.FoldedPatterns.{IsFoldedPattern}
 use Rattle.ff_types.specs.Sheets.{sheet_of}
 use Rattle.ff_types.specs.Cases.{IsCaseOf}
 use Rattle.ff_types.specs.Assignments.{IsTrueTo}
 use Rattle.ff_planar.specs.Given.{AreGiven}
+use Rattle.ff_reflect.specs.Folding.{IsRefused}
 use Rattle.ff_problem.specs.Limits.{RefusesCase, IsWithinLimits}
 
 -- The faces and the folding of the pattern, and the case of the folded sheet: an assignment meets its constraints exactly
@@ -28,10 +28,10 @@ pub record IsProblem (p : Pattern) (faces : Faces) (folded : Folded) (case : Cas
 abbrev pub RefusesAsDrawn : Pattern → Refusal → Type 0
 RefusesAsDrawn p r = RefusesFaces p.points p.edges p.marks r
 
--- faces, and no folding within the limit of coordinates
+-- Faces, and no folding: at no scale where flags break or folded faces don't meet, within the limit of coordinates where
+-- one is too large.
 abbrev pub RefusesAsFolded : Pattern → Refusal → Type 0
-RefusesAsFolded p r = (faces : Faces) × AreGiven p.points p.edges p.marks faces
-    × RefusesFolding p.points faces.rings p.edges faces.sides faces.marks r
+RefusesAsFolded p r = (faces : Faces) × AreGiven p.points p.edges p.marks faces × IsRefused p faces r
 
 -- a folding, and too much of something
 abbrev pub RefusesAsLayered : Pattern → Refusal → Type 0

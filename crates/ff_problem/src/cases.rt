@@ -1,5 +1,5 @@
 //! The case of a folded sheet.
-ghost use Rattle.std.specs.Prelude.{◌≡◌, ◌≤◌, IfOk, IfErr, OnOk, MatchResult, length};
+ghost use Rattle.std.specs.Prelude.{◌≡◌, ◌≤◌, IfOk, IfErr, MatchResult, length};
 ghost use Rattle.std.specs.List.{filter_map};
 ghost use Rattle.ff_types.specs.FoldedPatterns.{IsFoldedPattern};
 ghost use Rattle.ff_types.specs.Sheets.{sheet_of, edges_of};
@@ -31,6 +31,7 @@ fn few_cells(
     ensures made { IfOk result (AreFewCells (sheet_of pattern.now faces.now folded.now)) }
     ensures refused { IfErr result (WhyNoCase (sheet_of pattern.now faces.now folded.now)) }
 {
+    // The contract alone names what isn't used.
     let _ = pattern;
     cells(alloc, faces, folded)
 }
@@ -47,6 +48,7 @@ fn few_pairs(
     ensures made { IfOk result (AreFewPairs (sheet_of pattern.now faces.now folded.now) cells.now) }
     ensures refused { IfErr result (WhyNoCase (sheet_of pattern.now faces.now folded.now)) }
 {
+    // The contract alone names what isn't used.
     let _ = pattern;
     let _ = faces;
     let _ = folded;
@@ -67,6 +69,7 @@ fn few_triples(
     ensures made { IfOk result (AreLayers (sheet_of pattern.now faces.now folded.now) pairs.now) }
     ensures refused { IfErr result (WhyNoCase (sheet_of pattern.now faces.now folded.now)) }
 {
+    // The contract alone names what isn't used.
     let _ = pattern;
     let _ = faces;
     let _ = folded;
@@ -104,6 +107,7 @@ fn few_edge_pairs(
     ensures made { IfOk result (AreEdgePairs (sheet_of pattern.now faces.now folded.now)) }
     ensures refused { IfErr result (WhyNoCase (sheet_of pattern.now faces.now folded.now)) }
 {
+    // The contract alone names what isn't used.
     let _ = pairs;
     let _ = list;
     edge_pairs(alloc, pattern, faces, folded)
@@ -123,27 +127,28 @@ fn few_edge_faces(
     ensures made { IfOk result (AreEdgeFaces (sheet_of pattern.now faces.now folded.now)) }
     ensures refused { IfErr result (WhyNoCase (sheet_of pattern.now faces.now folded.now)) }
 {
+    // The contract alone names what isn't used.
     let _ = pairs;
     let _ = list;
     edge_faces(alloc, pattern, faces, folded)
 }
 
-// Appends the constraints that rest on edges.
+// The list with the constraints that rest on edges behind it.
 fn add_tacos(
     alloc: Global,
-    list: &mut Listing,
+    list: Listing,
     pattern: &Pattern,
     faces: &Faces,
     folded: &Folded,
     pairs: &Pairs,
-) -> Result<(), No>
+) -> Result<Listing, No>
     requires folded { IsFoldedPattern pattern.now faces.now folded.now }
-    requires layers { AreLayers (sheet_of pattern.now faces.now folded.now) pairs.now list.old }
-    ensures made { OnOk result (AreConstraints (sheet_of pattern.now faces.now folded.now) pairs.now list.new) }
+    requires layers { AreLayers (sheet_of pattern.now faces.now folded.now) pairs.now list }
+    ensures made { IfOk result (AreConstraints (sheet_of pattern.now faces.now folded.now) pairs.now) }
     ensures refused { IfErr result (WhyNoCase (sheet_of pattern.now faces.now folded.now)) }
 {
-    let edge_pairs = few_edge_pairs(alloc, pattern, faces, folded, pairs, list)?;
-    let edge_faces = few_edge_faces(alloc, pattern, faces, folded, pairs, list)?;
+    let edge_pairs = few_edge_pairs(alloc, pattern, faces, folded, pairs, &list)?;
+    let edge_faces = few_edge_faces(alloc, pattern, faces, folded, pairs, &list)?;
     tacos(
         alloc,
         list,
@@ -170,6 +175,7 @@ fn assembled(
     requires starts { starts ≡ filter_map (start_of (sheet_of pattern.now faces.now folded.now) pairs) (edges_of (sheet_of pattern.now faces.now folded.now)) }
     ensures { IsCaseWithin (sheet_of pattern.now faces.now folded.now) result }
 {
+    // The contract alone names what isn't used.
     let _ = pattern;
     let _ = faces;
     let _ = folded;
@@ -194,8 +200,8 @@ pub(crate) fn folded_case(
     ensures made { IfOk result (IsCaseWithin (sheet_of pattern.now faces.now folded.now)) }
     ensures refused { IfErr result (WhyNoCase (sheet_of pattern.now faces.now folded.now)) }
 {
-    let (pairs, mut list) = layers(alloc, pattern, faces, folded)?;
-    add_tacos(alloc, &mut list, pattern, faces, folded, &pairs)?;
+    let (pairs, list) = layers(alloc, pattern, faces, folded)?;
+    let list = add_tacos(alloc, list, pattern, faces, folded, &pairs)?;
     let starts = starts_of(alloc, pattern, faces, folded, &pairs)?;
     Ok(assembled(pattern, faces, folded, pairs, list, starts))
 }

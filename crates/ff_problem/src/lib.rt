@@ -4,7 +4,9 @@
 mod cases;
 mod laws;
 mod problems;
+mod solving;
 mod starts;
 
 pub use laws::{problem_is_one, refusal_is_one};
-pub use problems::{Problem, problem_of};
+pub use problems::Problem;
+pub use solving::problem;

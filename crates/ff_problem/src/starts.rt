@@ -52,6 +52,7 @@ fn start_at(
     requires marks { e < length faces.now.marks }
     ensures { result ≡ start_of (sheet_of pattern.now faces.now folded.now) pairs.now e }
 {
+    // The contract alone names what isn't used.
     let _ = pattern;
     let sides = faces.sides.as_slice()[e as usize];
     let left = face_in(sides.left);

@@ -1,14 +1,16 @@
 //! Laws of reports.
-ghost use Rattle.ff_solve.specs.Laws.{ChoicesAreStackings, ClashHasNone, ReportIsOne};
+ghost use Rattle.ff_solve.specs.Laws.{ChoicesAreStackings, ClashHasNone, ReportIsOne, StartClashHasNone, StartsAreStackings};
 
 /// Cases that differ at most in the places of their cites have one report.
 pub fn report_is_one()
     ensures { ReportIsOne }
 {}
 
-/// Choices of one solution of each part correspond one-to-one to the geometric stackings that keep the creases. Where
-/// the closure clashes there is none.
+/// Choices of one solution of each part correspond one-to-one to the geometric stackings that keep the creases and the
+/// pins on listed pairs. Where the closure clashes there is none. So it is of the starts alone, without pins.
 pub fn stackings_are_choices()
     ensures choices { ChoicesAreStackings }
     ensures clash { ClashHasNone }
+    ensures starts { StartsAreStackings }
+    ensures start_clash { StartClashHasNone }
 {}

@@ -6,7 +6,7 @@ use anyhow::Result;
 use ff_cells::cells;
 use ff_edges::{edge_faces, edge_pairs};
 use ff_pairs::pairs;
-use ff_problem::problem_of;
+use ff_problem::problem;
 use ff_read::read_fold;
 use ff_types::{Faces, Folded, MOST_BYTES, Pattern};
 use std::alloc::Global;
@@ -91,7 +91,7 @@ fn time_stages(rt: &(impl Clock + Print + Eprint), alloc: Global, pattern: &Patt
     requires some { 1 ≤ length pattern.now.points }
 {
     let start = Instant::now(rt)?;
-    let problem = problem_of(alloc, pattern);
+    let problem = problem(alloc, pattern);
     let micros = start.elapsed(rt)?.as_micros();
     eprintln!(rt; "problem {micros} us")?;
     match problem {

@@ -14,7 +14,7 @@ use Rattle.ff_tables.specs.declared.memory.NoMemory.{NoMemory}
 use Rattle.ff_solve.specs.declared.reports.Report.{Report}
 use Rattle.ff_solve.specs.Reports.{IsReport}
 use Rattle.ff_solve.specs.Written.{report_text}
-use Rattle.ff_solve.proofs.Stacked.{choices_are_stackings, clash_has_none}
+use Rattle.ff_solve.proofs.Stacked.{starts_are_stackings, start_clash_has_none}
 use Rattle.ff_propagate.specs.Facts.{value_at}
 use Rattle.ff_parts.specs.Lists.{vars_of}
 use Rattle.ff_borders.proofs.Witnesses.{witnessed_hold}
@@ -31,8 +31,8 @@ solved bytes faces folded case budget l text reads report = record {
   case = case;
   reads = reads;
   report = report;
-  clash = λ c. clash_has_none (sheet_of reads.pattern faces folded) case reads.problem.true_to c.clashes;
-  choices = λ b. choices_are_stackings (sheet_of reads.pattern faces folded) case reads.problem.case_is reads.problem.true_to (value_at b.facts) (vars_of b.parts) b.factors;
+  clash = λ c. start_clash_has_none (sheet_of reads.pattern faces folded) case reads.problem.true_to c.clashes;
+  choices = λ b. starts_are_stackings (sheet_of reads.pattern faces folded) case reads.problem.case_is reads.problem.true_to (value_at b.facts) (vars_of b.parts) b.factors;
 }
 
 pub report_solved : (bytes : List ℕ) (faces : Faces) (folded : Folded) (case : Case) (budget : ℕ) → ReadsProblem bytes faces folded case

@@ -18,6 +18,7 @@ use Rattle.ff_types.specs.Sheets.{Sheet, sheet_of}
 use Rattle.ff_types.specs.Cases.{IsCaseOf}
 use Rattle.ff_types.specs.Assignments.{IsTrueTo}
 use Rattle.ff_planar.specs.Given.{AreGiven}
+use Rattle.ff_reflect.proofs.Assembly.{refused}
 use Rattle.ff_problem.specs.Limits.{IsWithinLimits, RefusesCase}
 use Rattle.ff_problem.specs.Problems.{IsProblem, RefusesProblem}
 
@@ -59,6 +60,7 @@ module _ (p q : Pattern) (points : p.points ≡ q.points) (edges : p.edges ≡ q
   refused_there r (inr (inl (faces, g, h))) = inr (inl (
     faces,
     given_there faces g,
-    subst (λ (ps : List Pt). RefusesFolding ps faces.rings q.edges faces.sides faces.marks r) points (subst (λ (es : List EdgeEnds). RefusesFolding p.points faces.rings es faces.sides faces.marks r) edges h),
+    refused q faces r (record { drawing = drawn g.drawing; faces = faced faces g.faces_are })
+        (subst (λ (ps : List Pt). RefusesFolding ps faces.rings q.edges faces.sides faces.marks r) points (subst (λ (es : List EdgeEnds). RefusesFolding p.points faces.rings es faces.sides faces.marks r) edges h.stop)),
   ))
   refused_there r (inr (inr (faces, folded, f, h))) = inr (inr (faces, folded, folds_there faces folded f, subst (λ (g : Sheet). RefusesCase g r) (sheets faces folded) h))

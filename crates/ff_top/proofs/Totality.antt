@@ -11,6 +11,7 @@ use Rattle.ff_planar.specs.Given.{AreGiven}
 use Rattle.ff_planar.proofs.SomeFaces.{not_neither}
 use Rattle.ff_reflect.specs.Sheets.{paper_of}
 use Rattle.ff_reflect.proofs.SomeFoldings.{not_neither as folds_or_not}
+use Rattle.ff_reflect.proofs.Assembly.{refused as refused_folding}
 use Rattle.ff_read.specs.Read.{IsReadAs}
 use Rattle.ff_read.proofs.OneReading.{reading_is_one}
 use Rattle.ff_report.specs.Refusals.{refusal_line}
@@ -33,7 +34,7 @@ module _ (input : List ℕ) (within : length input ≤ MOST_BYTES) (refused : (r
     (folds : (p : Pattern) (faces : Faces) (folded : Folded) → IsReadAs input p → IsFoldedPattern p faces folded → ⊥) where
   given : (p : Pattern) → IsReadAs input p → (faces : Faces) → AreGiven p.points p.edges p.marks faces → ⊥
   given p read faces g = folds_or_not (paper_of p faces)
-      (λ r h. refused r (inr (within, inr (record { pattern = p; read = read; refused = inr (inl (faces, g, h)) }))))
+      (λ r h. refused r (inr (within, inr (record { pattern = p; read = read; refused = inr (inl (faces, g, refused_folding p faces r (record { drawing = g.drawing; faces = g.faces_are }) h)) }))))
       (record { drawing = g.drawing; faces = g.faces_are })
       (λ scale images up f near. folds p faces (record { scale = scale; points = images; up = up }) read
       (record { drawing = g.drawing; faces_are = g.faces_are; few_faces = g.few; folding = f; near = near }))

@@ -1,6 +1,7 @@
 -- What the program answers and writes. This project's own.
-use Rattle.std.specs.Prelude.{ℕ, ◌≡◌, ◌⊎◌, IfSome, List, Option, Some, None}
+use Rattle.std.specs.Prelude.{ℕ, ◌≡◌, ◌⊎◌, IfSome, List, [], Option, Some, None}
 use Rattle.ff_top.specs.Texts.{usage_line}
+use Rattle.ff_top.specs.Alike.{AreAlike}
 use Rattle.ff_top.specs.Asking.{budget_in}
 use Rattle.ff_top.specs.Solving.{AnswersSolve}
 use Rattle.ff_top.specs.Transfer.{Tells, Got, GotFront, GotPart}
@@ -13,11 +14,16 @@ AnswersTo None input Usage text = text ≡ usage_line
 AnswersTo None input status text = ⊥
 AnswersTo (Some budget) input status text = AnswersSolve budget input status text
 
--- The status and the defined text for these words and this input.
+-- The status and a text for these words and this input.
 abbrev pub IsAnswer : List (List ℕ) → List ℕ → Status → List ℕ → Type 0
 IsAnswer words input status text = AnswersTo (budget_in words) input status text
 
--- The words and an input have one answer.
+-- Two answers to the words and an input have one status, and their texts are alike.
+abbrev pub AnswersAreAlike : Type 0
+AnswersAreAlike = (words : List (List ℕ)) (input : List ℕ) (s t : Status) (x y : List ℕ) → IsAnswer words input s x → IsAnswer words input t y
+    → (s ≡ t) × AreAlike x y
+
+-- No report has a log yet, so that they are even the same: the words and an input have one answer.
 abbrev pub OneAnswer : Type 0
 OneAnswer = (words : List (List ℕ)) (input : List ℕ) (s t : Status) (x y : List ℕ) → IsAnswer words input s x → IsAnswer words input t y → (s ≡ t) × (x ≡ y)
 
@@ -38,19 +44,26 @@ IsSettled WriteFault = ⊥
 IsSettled NoMemory = ⊥
 IsSettled status = Unit {0}
 
+-- an answer to the words and the input, of whose text this much is written
+pub record HasWritten (words : List (List ℕ)) (input : List ℕ) (written : List ℕ → Type 0) : Type 0 where
+  pub status : Status
+  pub text : List ℕ
+  pub answer : IsAnswer words input status text
+  pub is_written : written text
+
 -- One run: its words, what the source told before it, what the sink told before and after, and its status.
 pub record IsRun (words : List (List ℕ)) (left before after : Option (List ℕ)) (status : Status) : Type 0 where
   -- the bytes that the source gives: those that it tells, where it does
   pub input : List ℕ
   pub told : Tells left input
-  -- each status but a fault and want of memory is the defined one, and the defined text is written whole
+  -- each status but a fault and want of memory is that of an answer, whose text is written whole
   pub settled : IsSettled status → (text : List ℕ) × IsAnswer words input status text × Got before text after
-  -- at a write fault there is a defined text, and a part of it is written
-  pub cut : status ≡ WriteFault → (s : Status) × (text : List ℕ) × IsAnswer words input s text × GotPart before text after
-  -- whatever the status, what is written is a front of the defined text
-  pub front : (s : Status) (text : List ℕ) → IsAnswer words input s text → GotFront before text after
+  -- at a write fault a part of the text of an answer is written, and not all of it
+  pub cut : status ≡ WriteFault → HasWritten words input (λ text. GotPart before text after)
+  -- whatever the status, nothing is written, or a front of the text of an answer
+  pub front : Got before [] after ⊎ HasWritten words input (λ text. GotFront before text after)
 
--- Where no fault was counted, the answer is the defined one, and its text is written, unless memory was refused.
+-- Where no fault was counted, the run ends with an answer, whose text is written, unless memory was refused.
 abbrev pub IsComplete : List (List ℕ) → Option (List ℕ) → Option (List ℕ) → Option (List ℕ) → Type 0 → Status → Type 0
-IsComplete words left before after no_fault status = IfSome left (λ input. (s : Status) (text : List ℕ) → IsAnswer words input s text → no_fault
-    → (status ≡ NoMemory) ⊎ ((status ≡ s) × Got before text after))
+IsComplete words left before after no_fault status = IfSome left (λ input. no_fault
+    → (status ≡ NoMemory) ⊎ ((text : List ℕ) × IsAnswer words input status text × Got before text after))

@@ -1,5 +1,5 @@
 -- What `solve` answers: the report of the pattern that the bytes spell, or why they are refused. This project's own.
-use Rattle.std.specs.Prelude.{◌≡◌, ℕ, ◌<◌, ◌≤◌, ◌⊎◌, Bool, List, length}
+use Rattle.std.specs.Prelude.{◌≡◌, ℕ, ◌<◌, ◌≤◌, ◌⊎◌, Bool, List, [], length}
 use Rattle.ff_types.specs.declared.limits.TheConstants.{MOST_BYTES}
 use Rattle.ff_types.specs.declared.patterns.Pattern.{Pattern}
 use Rattle.ff_types.specs.declared.faces.Faces.{Faces}
@@ -52,12 +52,12 @@ pub record IsSolved (bytes : List ℕ) (budget : ℕ) (l : Last) (text : List �
   pub case : Case
   pub reads : ReadsProblem bytes faces folded case
   pub report : IsReport faces folded case budget l text
-  -- where the closure clashes no geometric stacking keeps the creases
+  -- where the closure clashes no geometric stacking keeps the creases; there are no pins
   pub clash : IsClashReport faces folded case l text → (above : ℕ → ℕ → Bool)
-      → IsKept (sheet_of reads.pattern faces folded) above → ⊥
+      → IsKept (sheet_of reads.pattern faces folded) [] above → ⊥
   -- else choices of one solution of each part correspond one-to-one to those that do
   pub choices : (b : IsBoardReport faces folded case budget l text)
-      → AreStackings (sheet_of reads.pattern faces folded) case (value_at b.facts) (vars_of b.parts)
+      → AreStackings (sheet_of reads.pattern faces folded) [] case (value_at b.facts) (vars_of b.parts)
 
 abbrev pub status_of : Last → Status
 status_of last.Done = Done

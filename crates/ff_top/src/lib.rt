@@ -4,8 +4,6 @@
 mod asking;
 mod solving;
 pub mod status;
-#[cfg(test)]
-mod tests;
 pub mod texts;
 pub mod top;
 pub mod transfer;

@@ -10,7 +10,7 @@ ghost use Rattle.ff_top.specs.Writings.{text_of};
 use crate::status::Status;
 use crate::texts::Last;
 use crate::writing::Writing;
-use ff_problem::{Problem, problem_of};
+use ff_problem::{Problem, problem};
 use ff_read::read_fold;
 use ff_report::refusal_text;
 use ff_solve::{Report, report_of};
@@ -64,7 +64,7 @@ fn read_as_problem(alloc: Global, bytes: &[u8], pattern: &Pattern) -> Result<Pro
     ensures refused { IfErr result (IsReason bytes.now) }
 {
     let _ = bytes;
-    problem_of(alloc, pattern)
+    problem(alloc, pattern)
 }
 
 // What the bytes come to.

@@ -5,7 +5,7 @@ ghost use Rattle.ff_outside.specs.Streams.{Rose};
 ghost use Rattle.ff_top.specs.Transfer.{Tells, IsReadOff};
 ghost use Rattle.ff_top.specs.Asking.{AsksSolve};
 ghost use Rattle.ff_top.specs.Writings.{text_of};
-ghost use Rattle.ff_top.specs.Answer.{IsAnswer, IsRun, IsAnswered, IsComplete, OneAnswer, SomeAnswer};
+ghost use Rattle.ff_top.specs.Answer.{AnswersAreAlike, IsAnswer, IsRun, IsAnswered, IsComplete, OneAnswer, SomeAnswer};
 
 use crate::asking::solve_words;
 use crate::solving::{Outcome, refuse, solve};
@@ -51,9 +51,10 @@ pub fn run_alone<S: Source, K: Sink>(
     source: &mut S,
     sink: &mut K,
 ) -> Status
-    // Each status but a fault and want of memory is the defined one. What is written is a front of the defined text.
+    // Each status but a fault and want of memory is that of an answer, whose text is written whole. At a write fault a
+    // part of such a text is written, and whatever the status, nothing or a front of one.
     ensures run { IsRun (map string_bytes words.now) (S.left source.old) (K.held sink.old) (K.held sink.new) result }
-    // Where no fault is counted, the defined text is written, or else memory was refused.
+    // Where no fault is counted, the run ends with an answer, whose text is written, or else memory was refused.
     ensures complete { let no_read_fault = Rose (S.faults source.old) (S.faults source.new) (S.at_last source.new) → ⊥ in
         let no_write_fault = Rose (K.faults sink.old) (K.faults sink.new) (K.at_last sink.new) → ⊥ in
         IsComplete (map string_bytes words.now) (S.left source.old) (K.held sink.old) (K.held sink.new)
@@ -85,10 +86,11 @@ pub fn run_alone<S: Source, K: Sink>(
     }
 }
 
-/// A law: the words and an input have one answer. So each status of `run_alone` comes exactly where its row of
-/// `IsAnswer` holds.
+/// A law: two answers to the words and an input have one status, and texts that are alike but for logs. So each status of
+/// `run_alone` comes exactly where its row of `IsAnswer` holds. No report has a log yet, so that there is one answer.
 pub fn one_answer()
-    ensures { OneAnswer }
+    ensures alike { AnswersAreAlike }
+    ensures one { OneAnswer }
 {}
 
 /// A law: no words and no input are without an answer.

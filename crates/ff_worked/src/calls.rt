@@ -9,7 +9,7 @@ use ff_cells::{Cell, cells};
 use ff_edges::{EdgeFace, EdgePair, edge_faces, edge_pairs};
 use ff_pairs::pairs;
 use ff_planar::faces;
-use ff_problem::{Problem, problem_of};
+use ff_problem::Problem;
 use ff_read::read_fold;
 use ff_reflect::fold;
 use ff_tables::Items;
@@ -105,5 +105,5 @@ pub fn layered(alloc: Global, text: &str) -> Result<Layers, No> {
 /// What the pattern that the text spells comes to.
 pub fn problem(alloc: Global, text: &str) -> Result<Problem, No> {
     let pattern = pattern_of(alloc, text)?;
-    problem_of(alloc, &pattern)
+    ff_problem::problem(alloc, &pattern)
 }
