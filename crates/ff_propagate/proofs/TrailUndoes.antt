@@ -5,8 +5,7 @@ use Rattle.std.proofs.lemmas.List.{get_or-set_same, get_or-set_other, length-set
 use Rattle.ff_tables.specs.declared.terms.Constraint.{Constraint}
 use Rattle.ff_propagate.specs.declared.trail.Step.{Step}
 use Rattle.ff_propagate.specs.declared.trail.Trail.{Trail}
-use Rattle.ff_propagate.specs.Stands.{value_in}
-use Rattle.ff_propagate.specs.Trails.{known, count_known, without, cut, IsTrail, AreForced}
+use Rattle.ff_propagate.specs.Trails.{value_in, known, count_known, without, cut, IsTrail, AreForced}
 use Rattle.ff_propagate.proofs.TrailSteps.{without_push, count_known_unset, forced_same}
 
 pub record IsTakenBack (old : Trail) (x : Step) (new : Trail) : Type 0 where
