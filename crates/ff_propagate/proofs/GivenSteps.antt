@@ -5,12 +5,11 @@ use mathlib.Core.Logic.{dite}
 use native.Mathlib.Decide.{ℕ_discrete}
 use Rattle.ff_propagate.specs.declared.facts.Fact.{Fact}
 use Rattle.ff_tables.specs.declared.givens.Given.{Given}
-use Rattle.ff_propagate.specs.declared.facts.Reason.{Reason}
 use Rattle.ff_propagate.specs.declared.facts.Reason.TheVariants as by
 use Rattle.ff_propagate.specs.Facts.{fact_at}
 use Rattle.ff_propagate.specs.RuleLaws.{HasFacts}
 use Rattle.ff_propagate.specs.Closing.{IsFirstContradiction}
-use Rattle.ff_propagate.specs.Giving.{HasGivens, Contradicts, NoneBefore, Agreed}
+use Rattle.ff_propagate.specs.Giving.{HasGivens, Contradicts, Agreed}
 
 some_none : {A : Type 0} {o : Option A} {g : A} → o ≡ Some g → o ≡ None → ⊥
 some_none p q = cc
@@ -56,42 +55,6 @@ given_step gs fs i g at l none gives =
           (λ ne. let old = gives.by v f (sym (get_or-set_other fs g.var v (Some h) None ne) ∙ is_f) in
           (old.0, omega (arith, old.1), old.2, old.3));
     }
-
-same_given : {i j : ℕ} {r : Reason} → r ≡ by.Given i → r ≡ by.Given j → i ≡ j
-same_given p q = cc
-
--- a given that is passed over since its variable has a fact
-pub given_passed : (gs : List Given) (fs : List (Option Fact)) (i : ℕ) (g : Given) → slice_get gs i ≡ Some g
-    → (h : Fact) → fact_at fs g.var ≡ Some h → HasGivens gs i fs → HasGivens gs (i + 1) fs
-given_passed gs fs i g at h is gives = record {
-  all = λ k f lt is_f. dite (ℕ_discrete k i)
-      (λ e. (h, ap (λ (x : Given). fact_at fs x.var) (same_some is_f (ap (slice_get gs) e ∙ at)) ∙ is))
-      (λ ne. gives.all k f (omega (arith, lt, ne)) is_f);
-  by = λ v f is_f. let old = gives.by v f is_f in (old.0, omega (arith, old.1), old.2, old.3);
-}
-
-pub contradicts : (gs : List Given) (fs : List (Option Fact)) (i : ℕ) (g : Given) → HasGivens gs i fs
-    → (h : Fact) → fact_at fs g.var ≡ Some h → (h.value ≡ g.value → ⊥) → (j : ℕ) → h.reason ≡ by.Given j
-    → Contradicts gs g i j
-contradicts gs fs i g gives h at differ j why =
-    let b = gives.by g.var h at in
-    let e : b.0 ≡ j = same_given b.3.0 why in
-    let s = b.3.2 in
-    record {
-      one = s.given;
-      is = subst (λ n. slice_get gs n ≡ Some s.given) e s.there;
-      var = s.variable;
-      differ = λ q. differ (sym s.value ∙ q);
-      earlier = subst (λ n. n < i) e b.1;
-      first = subst (λ n. NoneBefore gs g.var n) e b.2;
-    }
-
-pub no_forced : (gs : List Given) (i : ℕ) (fs : List (Option Fact)) → HasGivens gs i fs → (v : ℕ) (h : Fact)
-    → fact_at fs v ≡ Some h → (c : ℕ) → h.reason ≡ by.Forced c → ⊥
-no_forced gs i fs gives v h at c why = let b = gives.by v h at in clash b.3.0 why
-  where
-    clash : {r : Reason} {k c : ℕ} → r ≡ by.Given k → r ≡ by.Forced c → ⊥
-    clash p q = cc
 
 -- one given more
 pub agreed_on : (gs : List Given) (n : ℕ) (old new : List (Option Fact)) (g : Given) → HasFacts new old

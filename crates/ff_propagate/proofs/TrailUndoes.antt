@@ -63,10 +63,6 @@ taken_back vars mark first old x new u b more =
           ∙ u.same m l w;
     }
 
-pub begun : (vars mark : ℕ) (t : Trail) → IsTrail vars t → mark ≤ length t.steps.items
-    → IsUndoing vars mark t t
-begun vars mark t is l = record { trail = is; enough = l; front = refl; same = λ m k v. refl }
-
 pub undone : (vars mark : ℕ) (first now : Trail) → IsUndoing vars mark first now
     → length now.steps.items ≤ mark → now.steps.items ≡ take mark first.steps.items
 undone vars mark first now u l = sym (take_all mark now.steps.items l) ∙ u.front
