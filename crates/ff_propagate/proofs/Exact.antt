@@ -14,7 +14,7 @@ use Rattle.ff_tables.proofs.Agreeing.{turn_turn, forces_more}
 use Rattle.ff_propagate.specs.Closure.{InClosure, Clashes, IsClosure, Gives, HoldsGivens}
 use Rattle.ff_propagate.specs.Closing.{Contradict}
 use Rattle.ff_propagate.specs.ClosureLaws.{AreQuiet}
-use Rattle.ff_propagate.proofs.Quiet.{closure_forced, dead_forces}
+use Rattle.ff_propagate.proofs.Quiet.{IsQuiet, closure_forced, dead_forces}
 
 turn_one : (b : Bool) (s t : Order) → turn b s ≡ turn b t → s ≡ t
 turn_one b s t e = sym (turn_turn b s) ∙ ap (turn b) e ∙ turn_turn b t
@@ -54,19 +54,25 @@ some_test Above = refl
 abbrev pub AreInside : List Constraint → List Given → (ℕ → Option Order) → Type 0
 AreInside cons gs f = (v : ℕ) (s : Order) → f v ≡ Some s → InClosure cons (Gives gs) v s
 
-pub quiet_closure : (cons : List Constraint) (gs : List Given) (f : ℕ → Option Order) → AreInside cons gs f
-    → HoldsGivens gs f → AreQuiet cons f → IsClosure cons (Gives gs) f
-quiet_closure cons gs f inside gives quiet v s = (
+-- values of the closure that hold the givens, and from which no constraint forces more, are all of it
+pub silent_closure : (cons : List Constraint) (gs : List Given) (f : ℕ → Option Order) → AreInside cons gs f
+    → HoldsGivens gs f → IsQuiet cons f → IsClosure cons (Gives gs) f
+silent_closure cons gs f inside gives quiet v s = (
   inside v s,
   λ is. test_some (f v) s (is (λ u t. test (f u) t) (record {
     base_held = λ u t g. ap (λ (o : Option Order). test o t)
         (ap f (sym g.1.variable) ∙ gives g.0 g.1.given g.1.there ∙ ap Some g.1.value) ∙ some_test t;
     forced_held = λ c con u t there force. ap (λ (o : Option Order). test o t)
-        (quiet_known con.kind con.terms f u t (quiet c con there)
+        (quiet c con u t there
         (forces_more con.kind con.terms (λ x y. IsTrue (test (f x) y)) (Knows f) u t
         (λ j y l q. test_some (f (term_at con.terms j).var) y q) force)) ∙ some_test t;
   })),
 )
+
+pub quiet_closure : (cons : List Constraint) (gs : List Given) (f : ℕ → Option Order) → AreInside cons gs f
+    → HoldsGivens gs f → AreQuiet cons f → IsClosure cons (Gives gs) f
+quiet_closure cons gs f inside gives quiet = silent_closure cons gs f inside gives
+    (λ c con v s there. quiet_known con.kind con.terms f v s (quiet c con there))
 
 -- a dead constraint clashes
 pub dead_closure : (vars : ℕ) (cons : List Constraint) (gs : List Given) (f : ℕ → Option Order)

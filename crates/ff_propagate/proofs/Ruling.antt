@@ -40,3 +40,19 @@ values_inside vars cons gs fs rule v s e =
     let h = seen_is (fact_at fs v) s e in
     subst (λ t. InClosure cons (Gives gs) v t) h.2
     (inside_below vars cons gs fs rule (suc h.0.level) v h.0 (omega arith) h.1)
+
+-- a fact stands by its reason among more facts too
+pub stands_grows : (cons : List Constraint) (gs : List Given) (fs fs' : List (Option Fact))
+    → ((u : ℕ) (g : Fact) → fact_at fs u ≡ Some g → fact_at fs' u ≡ Some g)
+    → (v : ℕ) (s : Order) (k : ℕ) (r : Reason) → StandsBy cons gs fs v s k r → StandsBy cons gs fs' v s k r
+stands_grows cons gs fs fs' grow v s k (by.Given i) h = h
+stands_grows cons gs fs fs' grow v s k (by.Forced c) h = (
+  h.0,
+  record {
+    constraint = h.1.constraint;
+    there = h.1.there;
+    forces = forces_more h.1.constraint.kind h.1.constraint.terms (IsKnownBelow fs k) (IsKnownBelow fs' k) v s
+        (λ j t l q. record { fact = q.fact; there = grow _ q.fact q.there; lower = q.lower; value = q.value })
+        h.1.forces;
+  },
+)

@@ -12,8 +12,7 @@ use Rattle.ff_tables.specs.Forces.{Forces, Knows, ForcedIs, IsFirst}
 use Rattle.ff_tables.proofs.Agreeing.{forces_more}
 use Rattle.ff_propagate.specs.declared.trail.Step.{Step}
 use Rattle.ff_propagate.specs.declared.trail.Trail.{Trail}
-use Rattle.ff_propagate.specs.Stands.{value_in}
-use Rattle.ff_propagate.specs.Trails.{known, step_at, count_known, without, cut, IsTrail, IsForcedAt, IsKept, Covers, Grows, IsStepped, Waits, IsSilent}
+use Rattle.ff_propagate.specs.Trails.{value_in, known, step_at, count_known, without, cut, IsTrail, IsForcedAt, IsKept, Covers, Grows, IsStepped, Waits, IsSilent}
 use Rattle.ff_propagate.proofs.Exact.{quiet_known}
 
 count_known_le : (xs : List (Option Order)) → count_known xs ≤ length xs

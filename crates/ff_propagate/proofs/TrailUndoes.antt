@@ -5,8 +5,7 @@ use Rattle.std.proofs.lemmas.List.{get_or-set_same, get_or-set_other, length-set
 use Rattle.ff_tables.specs.declared.terms.Constraint.{Constraint}
 use Rattle.ff_propagate.specs.declared.trail.Step.{Step}
 use Rattle.ff_propagate.specs.declared.trail.Trail.{Trail}
-use Rattle.ff_propagate.specs.Stands.{value_in}
-use Rattle.ff_propagate.specs.Trails.{known, count_known, without, cut, IsTrail, AreForced}
+use Rattle.ff_propagate.specs.Trails.{value_in, known, count_known, without, cut, IsTrail, AreForced}
 use Rattle.ff_propagate.proofs.TrailSteps.{without_push, count_known_unset, forced_same}
 
 pub record IsTakenBack (old : Trail) (x : Step) (new : Trail) : Type 0 where
@@ -63,10 +62,6 @@ taken_back vars mark first old x new u b more =
           ∙ get_or-set_other old.values.list.items x.var y None None n)) w)
           ∙ u.same m l w;
     }
-
-pub begun : (vars mark : ℕ) (t : Trail) → IsTrail vars t → mark ≤ length t.steps.items
-    → IsUndoing vars mark t t
-begun vars mark t is l = record { trail = is; enough = l; front = refl; same = λ m k v. refl }
 
 pub undone : (vars mark : ℕ) (first now : Trail) → IsUndoing vars mark first now
     → length now.steps.items ≤ mark → now.steps.items ≡ take mark first.steps.items

@@ -9,8 +9,8 @@ pub mod Solutions
 pub mod Trees
 pub mod Choices
 pub mod Uses
-pub mod Stands
-pub mod Ends
+pub mod Levels
 pub mod Giving
 pub mod Boards
 pub mod Trails
+pub mod Telling

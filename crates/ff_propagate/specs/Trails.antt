@@ -5,9 +5,14 @@ use Rattle.ff_tables.specs.declared.terms.Term.{Term}
 use Rattle.ff_tables.specs.declared.terms.Constraint.{Constraint}
 use Rattle.ff_tables.specs.Orders.{term_at}
 use Rattle.ff_tables.specs.Forces.{Forces, Knows, NoneAgrees}
-use Rattle.ff_propagate.specs.Stands.{value_in}
+use Rattle.ff_propagate.specs.declared.following.Passed.{Passed}
+use Rattle.ff_propagate.specs.declared.following.Passed.TheVariants as passed
 use Rattle.ff_propagate.specs.declared.trail.Step.{Step}
 use Rattle.ff_propagate.specs.declared.trail.Trail.{Trail}
+
+-- the value at a place of a list, and none past the last
+abbrev pub value_in : List (Option Order) → ℕ → Option Order
+value_in xs v = slice_index_or xs v None
 
 -- the value that is known of a variable
 abbrev pub known : Trail → ℕ → Option Order
@@ -113,3 +118,8 @@ pub record IsDead (cons : List Constraint) (t : Trail) (c : ℕ) : Type 0 where
 abbrev pub Ends : List Constraint → ℕ → Trail → Option ℕ → Type 0
 Ends cons head t None = AreReady cons t head
 Ends cons head t (Some c) = IsDead cons t c
+
+-- how passes over all constraints end: one is dead, or each waits for a step from the one with this number on, or is silent
+abbrev pub PassesEnd : List Constraint → Trail → Passed → Type 0
+PassesEnd cons t (passed.Dead c) = IsDead cons t c
+PassesEnd cons t (passed.Waiting head) = (head ≤ length t.steps.items) × AreReady cons t head

@@ -1,59 +1,40 @@
 //! The closure.
 ghost use Rattle.std.specs.Prelude.{◌≡◌, ℕ, ◌+◌, ◌<◌, ◌≤◌, ◌^◌, IsTrue, false, length, None, Some, slice_get, IfOk};
-ghost use Rattle.ff_tables.specs.Systems.{AreFit};
 ghost use Rattle.ff_propagate.specs.Closing.{GivensFit, ClosesTo};
-ghost use Rattle.ff_propagate.specs.Stands.{Stand, Extends, Passes};
-ghost use Rattle.ff_propagate.specs.Giving.{Starts};
+ghost use Rattle.ff_propagate.specs.Giving.{HasGivens, Agreed};
 
-use crate::facts::{ClashAt, Closed, Facts};
-use crate::passing::Passed;
-use crate::uses::Uses;
-use crate::work::{Task, Work};
+use crate::facts::{ClashAt, Closed, Fact, Facts};
+use crate::giving::give;
+use crate::telling::{tell, values_of};
+use crate::trail::Trail;
 use ff_tables::{Given, Items, NoMemory, System};
 use std::alloc::Global;
 
-impl Work {
-    // Until no constraint forces more. One that is dead.
-    fn run(&mut self, alloc: Global, task: &Task) -> Result<Option<u32>, NoMemory>
-        requires stand { Stand task.now.vars task.now.constraints.now task.now.givens.now self.old }
-        requires fit { AreFit task.now.vars task.now.constraints.now }
-        requires few { length task.now.constraints.now < 2 ^ 32 }
-        ensures stand { Stand task.now.vars task.now.constraints.now task.now.givens.now self.new }
-        ensures extends { Extends self.old self.new }
-        ensures ends { IfOk result (λ r. Passes task.now.constraints.now self.new.count self.new r) }
-    {
-        match self.passes(task) {
-            Passed::Dead(c) => Ok(Some(c)),
-            Passed::Waiting(head) => {
-                if head == self.count {
-                    return Ok(None);
-                }
-                let uses = Uses::new(alloc, task.vars, task.constraints)?;
-                Ok(self.drain(task, &uses, head))
-            }
-        }
-    }
-}
-
-fn closed(alloc: Global, mut work: Work, task: &Task) -> Result<Closed, NoMemory>
-    requires start { Starts task.now.vars task.now.constraints.now task.now.givens.now work }
-    requires fit { AreFit task.now.vars task.now.constraints.now }
-    requires givens { GivensFit task.now.vars task.now.givens.now }
-    requires few { (length task.now.givens.now < 2 ^ 32) × (length task.now.constraints.now < 2 ^ 32) }
-    ensures { IfOk result (λ r. ClosesTo task.now.vars task.now.constraints.now task.now.givens.now r) }
+// The closure where no two givens contradict each other, from the facts of the givens.
+fn closed(
+    alloc: Global,
+    mut facts: Vec<Option<Fact>>,
+    system: &System,
+    givens: &[Given],
+) -> Result<Closed, NoMemory>
+    requires vars { system.now.vars < 2 ^ 32 }
+    requires wide { length facts.items ≡ system.now.vars }
+    requires gives { HasGivens givens.now (length givens.now) facts.items }
+    requires agreed { Agreed givens.now (length givens.now) facts.items }
+    requires few { length system.now.constraints < 2 ^ 32 }
+    ensures { IfOk result (λ r. ClosesTo system.now.vars system.now.constraints givens.now r) }
 {
-    if let Some(at) = work.give(task) {
-        return Ok(Closed::Clash {
-            facts: Facts::of(Items::of(work.facts)),
-            at,
-        });
-    }
-    match work.run(alloc, task)? {
+    let values = values_of(alloc, facts.as_slice())?;
+    let mut trail = Trail::of(alloc, values)?;
+    let dead = trail.settle(alloc, system)?;
+    tell(facts.as_mut_slice(), system, givens, &trail);
+    let facts = Facts::of(Items::of(facts));
+    match dead {
         Some(c) => Ok(Closed::Clash {
-            facts: Facts::of(Items::of(work.facts)),
+            facts,
             at: ClashAt::Dead(c),
         }),
-        None => Ok(Closed::Board(Facts::of(Items::of(work.facts)))),
+        None => Ok(Closed::Board(facts)),
     }
 }
 
@@ -64,13 +45,15 @@ pub fn close(alloc: Global, system: &System, givens: &Items<Given>) -> Result<Cl
     requires few { (length givens.now < 2 ^ 32) × (length system.now.constraints < 2 ^ 32) }
     ensures { IfOk result (λ r. ClosesTo system.now.vars system.now.constraints givens.now r) }
 {
-    let task = Task {
-        vars: system.vars,
-        constraints: system.constraints.as_slice(),
-        givens: givens.as_slice(),
-    };
-    let work = Work::new(alloc, system.vars)?;
-    closed(alloc, work, &task)
+    let mut facts = vec![in alloc; None; system.vars as usize]?;
+    let givens = givens.as_slice();
+    if let Some(at) = give(facts.as_mut_slice(), givens) {
+        return Ok(Closed::Clash {
+            facts: Facts::of(Items::of(facts)),
+            at,
+        });
+    }
+    closed(alloc, facts, system, givens)
 }
 
 /// Whether each given is of a variable below `vars`.

@@ -1,7 +1,7 @@
 //! Levels above those of known terms.
 ghost use Rattle.std.specs.Prelude.{◌≡◌, ℕ, ◌+◌, ◌<◌, ◌≤◌, ◌^◌, length};
 ghost use Rattle.ff_tables.specs.Orders.{term_at};
-ghost use Rattle.ff_propagate.specs.Stands.{AreLow, IsOver};
+ghost use Rattle.ff_propagate.specs.Levels.{AreLow, IsOver};
 
 use crate::facts::Fact;
 use ff_tables::Term;

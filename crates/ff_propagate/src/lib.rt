@@ -2,17 +2,15 @@
 #![tactic(auto)]
 
 mod closing;
-mod draining;
 mod facts;
 mod following;
 mod giving;
 mod laws;
 mod levels;
 mod parts;
-mod passing;
+mod telling;
 mod trail;
 mod uses;
-mod work;
 
 pub use closing::{close, givens_fit};
 pub use facts::{ClashAt, Closed, Fact, Facts, Reason};

@@ -2,10 +2,8 @@
 ghost use Rattle.std.specs.Prelude.{◌≡◌, ℕ, ◌+◌, ◌<◌, ◌≤◌, ◌⊎◌, ◌^◌, ◌++◌, ◌∷◌, [], IfOk, IsTrue, List, false, length, take, None, Some, slice_get, slice_set, slice_index_or, vec_len, vec_capacity};
 ghost use Rattle.ff_tables.specs.declared.terms.Constraint.{Constraint as ConstraintSpec};
 ghost use Rattle.ff_tables.specs.Systems.{IsFit};
-ghost use Rattle.ff_propagate.specs.Stands.{value_in};
-ghost use Rattle.ff_propagate.specs.Trails.{known, step_at, cut, IsTrail, AreForced, Grows, IsStepped, Waits, IsSilent, Rests, IsDead, Ends};
+ghost use Rattle.ff_propagate.specs.Trails.{value_in, known, step_at, cut, IsTrail, AreForced, Grows, IsStepped, Waits, IsSilent, Rests, IsDead, Ends};
 
-use crate::work::Values;
 use ff_tables::{Constraint, Forced, Known, NoMemory, Order, System, forced};
 use std::alloc::Global;
 
@@ -15,6 +13,23 @@ use std::alloc::Global;
 pub struct Step {
     pub var: u32,
     pub by: Option<u32>,
+}
+
+/// For each variable its value, where it is known.
+#[derive(Drop)]
+pub(crate) struct Values {
+    pub(crate) list: Vec<Option<Order>>,
+}
+
+impl Known for Values {
+    ghost count = { λ s. length s.list.items };
+
+    ghost known = { λ s v. value_in s.list.items v };
+
+    #[inline(always)]
+    fn value(&self, var: u32) -> Option<Order> {
+        self.list[var as usize]
+    }
 }
 
 /// For each variable its value, where it is known, and the steps in which variables got values since the start, in their order.
@@ -90,7 +105,7 @@ impl Trail {
     }
 
     /// Sets what the constraint, which has this number, forces. Whether it is dead: no row of it agrees with what is known.
-    #[inline]
+    #[inline(always)]
     pub fn examine(&mut self, system: &System, con: &Constraint, number: u32) -> bool
         requires trail { IsTrail system.now.vars self.old }
         requires con { slice_get system.now.constraints number ≡ Some con.now }

@@ -1,4 +1,4 @@
-use Rattle.ff_propagate.proofs.Steps.{stands_grows}
+use Rattle.ff_propagate.proofs.Ruling.{stands_grows}
 use Rattle.ff_propagate.proofs.laws.further_facts_keep_the_rule.Goals as goal
 
 pub returns : goal.returns
