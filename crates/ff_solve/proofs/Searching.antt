@@ -13,28 +13,27 @@ use Rattle.ff_propagate.specs.Solutions.{solutions_of}
 use Rattle.ff_solver.specs.declared.state.Search.{Search}
 use Rattle.ff_solver.specs.declared.state.Advance.{Advance}
 use Rattle.ff_solver.specs.declared.state.Advance.TheVariants.{Found, Finished, Spent}
-use Rattle.ff_solver.specs.Searches.{StandsAt, AdvancesIn, IsAdvance, IsSameSearch}
+use Rattle.ff_solver.specs.Searches.{StandsAt, GoesOn, AnswersIn, IsAdvance, IsSameSearch}
 use Rattle.ff_report.specs.declared.parts.PartOutcome.{PartOutcome}
 use Rattle.ff_report.specs.declared.parts.PartOutcome.TheVariants.{Unfinished}
 use Rattle.ff_solve.specs.Outcomes.{IsOutcome, outcome_with}
 
 -- The search of these facts and this part has come so far within the budget, and found these solutions.
-pub record HasGathered (vars : ℕ) (cons : List Constraint) (facts : List (Option Fact)) (part : List ℕ)
+pub record HasGathered (cons : List Constraint) (facts : List (Option Fact)) (part : List ℕ)
     (budget : ℕ) (s : Search) (solutions : List (List Order)) : Type 0 where
-  pub stands : StandsAt vars cons s
-  pub facts_are : s.facts ≡ facts
+  pub stands : StandsAt cons (value_at facts) s
   pub part_is : s.part.vars ≡ part
   pub paid : length s.part.vars * s.visited ≤ budget
   pub gathered : (tree : Tree) → IsTree cons (value_at facts) part tree → found (take s.visited (visits tree)) ≡ solutions
 
--- a tree of the search before and after a call
-ours : (cons : List Constraint) (facts : List (Option Fact)) (part : List ℕ) (s : Search) → s.facts ≡ facts → s.part.vars ≡ part → (tree : Tree)
-    → IsTree cons (value_at facts) part tree → IsTree cons (value_at s.facts) s.part.vars tree
-ours cons facts part s e f tree is = subst (λ (fs : List (Option Fact)). IsTree cons (value_at fs) s.part.vars tree) (sym e) (subst (λ (p : List ℕ). IsTree cons (value_at facts) p tree) (sym f) is)
+-- a tree of the part, by what the search says that its part is
+ours : (cons : List Constraint) (facts : List (Option Fact)) (part : List ℕ) (s : Search) → s.part.vars ≡ part → (tree : Tree)
+    → IsTree cons (value_at facts) part tree → IsTree cons (value_at facts) s.part.vars tree
+ours cons facts part s f tree is = subst (λ (p : List ℕ). IsTree cons (value_at facts) p tree) (sym f) is
 
-theirs : (cons : List Constraint) (facts : List (Option Fact)) (part : List ℕ) (s : Search) → s.facts ≡ facts → s.part.vars ≡ part → (tree : Tree)
-    → IsTree cons (value_at s.facts) s.part.vars tree → IsTree cons (value_at facts) part tree
-theirs cons facts part s e f tree is = subst (λ (fs : List (Option Fact)). IsTree cons (value_at fs) part tree) e (subst (λ (p : List ℕ). IsTree cons (value_at s.facts) p tree) f is)
+theirs : (cons : List Constraint) (facts : List (Option Fact)) (part : List ℕ) (s : Search) → s.part.vars ≡ part → (tree : Tree)
+    → IsTree cons (value_at facts) s.part.vars tree → IsTree cons (value_at facts) part tree
+theirs cons facts part s f tree is = subst (λ (p : List ℕ). IsTree cons (value_at facts) p tree) f is
 
 -- what a call with the turns that are left pays
 paid_more : (cost before steps budget : ℕ) → cost * before ≤ budget → cost * steps ≤ budget - cost * before → cost * (before + steps) ≤ budget
@@ -49,11 +48,11 @@ at_least m n = grind arith
 no_cons : (values : List Order) (rest : List (List Order)) → (values ∷ rest) ≡ [] → ⊥
 no_cons values rest e = let n : suc (length rest) ≡ 0 = ap length e in omega (arith, n)
 
-module _ (vars : ℕ) (cons : List Constraint) (facts : List (Option Fact)) (part : List ℕ) (budget : ℕ) (s t : Search) (solutions : List (List Order))
-    (turns : ℕ) (answer : Advance) (h : HasGathered vars cons facts part budget s solutions) (stands : StandsAt vars cons t) (kept : IsSameSearch s t)
-    (left : turns ≡ budget - length s.part.vars * s.visited) (a : AdvancesIn cons s turns t answer) where
-  facts_now : t.facts ≡ facts
-  facts_now = kept.facts ∙ h.facts_are
+module _ (cons : List Constraint) (facts : List (Option Fact)) (part : List ℕ) (budget : ℕ) (s t : Search) (solutions : List (List Order))
+    (turns : ℕ) (answer : Advance) (h : HasGathered cons facts part budget s solutions) (goes_on : GoesOn cons s t) (kept : IsSameSearch s t)
+    (left : turns ≡ budget - length s.part.vars * s.visited) (a : AnswersIn cons s turns t answer) where
+  abbrev stands : StandsAt cons (value_at facts) t
+  stands = goes_on (value_at facts) h.stands
 
   part_now : t.part.vars ≡ part
   part_now = ap (λ (p : Part). p.vars) kept.part ∙ h.part_is
@@ -63,18 +62,17 @@ module _ (vars : ℕ) (cons : List Constraint) (facts : List (Option Fact)) (par
 
   -- of whichever tree is the part's
   called : (r : Advance) → answer ≡ r → (tree : Tree) → IsTree cons (value_at facts) part tree → IsAdvance tree (length s.part.vars) turns s.visited t.visited r
-  called r e tree is = subst (λ (x : Advance). IsAdvance tree (length s.part.vars) turns s.visited t.visited x) e (a tree (ours cons facts part s h.facts_are h.part_is tree is))
+  called r e tree is = subst (λ (x : Advance). IsAdvance tree (length s.part.vars) turns s.visited t.visited x) e (a (value_at facts) h.stands tree (ours cons facts part s h.part_is tree is))
 
   is_ours : IsTree cons (value_at facts) part stands.tree
-  is_ours = theirs cons facts part t facts_now part_now stands.tree stands.is_in.is_tree
+  is_ours = theirs cons facts part t part_now stands.tree stands.is_in.is_tree
 
   paid_now : (steps : ℕ) → t.visited ≡ s.visited + steps → length s.part.vars * steps ≤ turns → length t.part.vars * t.visited ≤ budget
   paid_now steps e l = subst (λ (n : ℕ). n * t.visited ≤ budget) (sym (ap length same_part)) (subst (λ (n : ℕ). length s.part.vars * n ≤ budget) (sym e) (paid_more (length s.part.vars) s.visited steps budget h.paid (omega (arith, l, left))))
 
-  pub gone_on : (values : List Order) → answer ≡ Found values → (list : List (List Order)) → list ≡ solutions ++ values ∷ [] → HasGathered vars cons facts part budget t list
+  pub gone_on : (values : List Order) → answer ≡ Found values → (list : List (List Order)) → list ≡ solutions ++ values ∷ [] → HasGathered cons facts part budget t list
   gone_on values r list e = let b = called (Found values) r stands.tree is_ours in record {
     stands = stands;
-    facts_are = facts_now;
     part_is = part_now;
     paid = paid_now b.steps b.counted b.advances.covered;
     gathered = λ tree is. (called (Found values) r tree is).solutions ∙ ap (λ (l : List (List Order)). l ++ values ∷ []) (h.gathered tree is) ∙ sym e;
@@ -109,7 +107,7 @@ module _ (vars : ℕ) (cons : List Constraint) (facts : List (Option Fact)) (par
         let before : found (take s.visited (visits stands.tree)) ≡ solutions = h.gathered stands.tree is_ours in
         let now : found (take t.visited (visits stands.tree)) ≡ solutions ++ [] = b.solutions ∙ ap (λ (l : List (List Order)). l ++ []) before in
         let all : found (take t.visited (visits stands.tree)) ≡ found (visits stands.tree) = ap found (take_all t.visited (visits stands.tree) (omega (arith, all_seen))) in
-        let those : found (visits stands.tree) ≡ solutions_of cons (value_at facts) part = subst (λ (fs : List (Option Fact)). found (visits stands.tree) ≡ solutions_of cons (value_at fs) part) facts_now (subst (λ (p : List ℕ). found (visits stands.tree) ≡ solutions_of cons (value_at t.facts) p) part_now stands.is_in.solutions) in
+        let those : found (visits stands.tree) ≡ solutions_of cons (value_at facts) part = subst (λ (p : List ℕ). found (visits stands.tree) ≡ solutions_of cons (value_at facts) p) part_now stands.is_in.solutions in
         sym (append-nil solutions) ∙ sym now ∙ all ∙ those
 
     paid : turns_of part stands.tree ≤ budget

@@ -3,7 +3,7 @@ ghost use Rattle.std.specs.Prelude.{◌≡◌, ℕ, ◌<◌, ◌≤◌, ◌^◌,
 ghost use Rattle.std.specs.List.{list_any};
 ghost use Rattle.ff_propagate.specs.Facts.{value_at};
 ghost use Rattle.ff_propagate.specs.Boards.{IsBoardOf};
-ghost use Rattle.ff_propagate.specs.Parts.{IsPart};
+ghost use Rattle.ff_propagate.specs.Parts.{IsPart, AreTouching};
 ghost use Rattle.ff_propagate.specs.declared.parts.Part.{Part as PartSpec};
 ghost use Rattle.ff_solve.specs.Lines.{last_of, is_none, is_unfinished};
 ghost use Rattle.ff_solve.specs.Outcomes.{IsOutcome, AreOutcomes, outcome_with};
@@ -37,6 +37,7 @@ fn outcome_of(
 ) -> Result<PartOutcome, NoMemory>
     requires board { IsBoardOf case.now.system.vars case.now.system.constraints facts.now }
     requires part { IsPart case.now.system.vars case.now.system.constraints (value_at facts.now) part.now.vars }
+    requires touching { AreTouching case.now.system.constraints part.now.vars part.now.touching }
     requires few { length case.now.system.constraints < 2 ^ 32 }
     ensures { IfOk result (IsOutcome case.now.system.constraints (value_at facts.now) budget part.now.vars) }
 {
@@ -62,6 +63,8 @@ pub(crate) fn outcomes_of(
     requires board { IsBoardOf case.now.system.vars case.now.system.constraints facts.now }
     requires parts { (k : ℕ) (part : PartSpec) → slice_get parts.now k ≡ Some part
         → IsPart case.now.system.vars case.now.system.constraints (value_at facts.now) part.vars }
+    requires touching { (k : ℕ) (part : PartSpec) → slice_get parts.now k ≡ Some part
+        → AreTouching case.now.system.constraints part.vars part.touching }
     requires few { length case.now.system.constraints < 2 ^ 32 }
     ensures { IfOk result (AreOutcomes case.now.system.constraints (value_at facts.now) budget parts.now) }
 {

@@ -104,7 +104,7 @@ module _ (vars : ℕ) (cons : List Constraint) (value : ℕ → Option Order) (p
   one_value tried calm v Above Above a b = refl
 
   -- the values of a full leaf are a solution
-  full_solves : (tried : List (ℕ × Order)) (values : List Order) → (IsClashNode cons (Knows value) tried → ⊥)
+  pub full_solves : (tried : List (ℕ × Order)) (values : List Order) → (IsClashNode cons (Knows value) tried → ⊥)
       → HasValues cons (Knows value) tried part values → is_solution cons value part values ≡ true
   full_solves tried values calm have = all_from (has_row (joint value part values)) cons
       (λ c con is. elim (row_or_none (joint value part values) con) [

@@ -14,26 +14,29 @@ use Rattle.ff_solver.specs.Paths.{IsPath, IsReady, AreLeft, AreWithin, AreDecide
 abbrev pub idle : ℕ → Nodes
 idle n = replicate n None
 
--- Of the nodes that are left before a call, it visits the first ones, each for the cost of a node, and leaves the others:
--- up to the next solution; or to the end, where none of them is a solution; or until the turns that are left don't cover a node,
--- where more nodes are left and none of those visited is a solution.
+-- Of the nodes that are left before a call, it visits the first ones, each for the cost of a node, up to the next solution, and
+-- leaves the others.
 pub record IsFound (cost turns : ℕ) (before after : Nodes) (steps : ℕ) (values : List Order) : Type 0 where
   pub earlier : ℕ
   pub counted : steps ≡ earlier + 1
   pub nodes : before ≡ idle earlier ++ Some values ∷ after
   pub covered : cost * steps ≤ turns
 
+-- It visits all of them, and none is a solution.
 pub record IsFinished (cost turns : ℕ) (before after : Nodes) (steps : ℕ) : Type 0 where
   pub nodes : before ≡ idle steps
   pub ended : after ≡ []
   pub covered : cost * steps ≤ turns
 
+-- It visits the first ones until the turns that are left don't cover a node. More nodes are left, and none of those visited is a
+-- solution.
 pub record IsSpent (cost turns : ℕ) (before after : Nodes) (steps : ℕ) : Type 0 where
   pub nodes : before ≡ idle steps ++ after
   pub goes_on : after ≡ [] → ⊥
   pub covered : cost * steps ≤ turns
   pub not_covered : turns < cost * (steps + 1)
 
+-- Which of these it is, the answer says.
 abbrev pub Advances : ℕ → ℕ → Nodes → Nodes → ℕ → Advance → Type 0
 Advances cost turns before after steps (Found values) = IsFound cost turns before after steps values
 Advances cost turns before after steps Finished = IsFinished cost turns before after steps

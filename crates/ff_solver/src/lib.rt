@@ -3,6 +3,7 @@
 
 mod closing;
 mod copying;
+mod laws;
 mod path;
 mod search;
 mod starting;
@@ -10,5 +11,6 @@ mod state;
 mod trail;
 mod visiting;
 
+pub use laws::decided_nodes_are_solutions;
 pub use starting::start;
 pub use state::{Advance, Search};

@@ -24,7 +24,7 @@ pub fn start(alloc: Global, case: &Case, facts: &Facts, part: &Part) -> Result<S
     ensures stands { IfOk result (λ search. StandsAt case.now.system.constraints (value_at facts.now) search) }
     ensures starts { IfOk result (λ search. Starts part.now.vars search) }
 {
-    // It is a number of 32 bits, and so is what no part is longer than.
+    // Reading it makes its range known, and a part has no more variables.
     let _vars = case.system.vars;
     let own_vars = part.vars.as_slice();
     let mut names = names_of(alloc, facts, own_vars)?;

@@ -2,8 +2,8 @@
 ghost use Rattle.std.specs.Prelude.{◌≡◌, ℕ, ◌*◌, ◌+◌, ◌<◌, ◌≤◌, ◌^◌, length, slice_get, Some};
 ghost use Rattle.ff_propagate.specs.Boards.{IsBoardOf};
 ghost use Rattle.ff_propagate.specs.Facts.{value_at};
-ghost use Rattle.ff_propagate.specs.Parts.{IsPart};
-ghost use Rattle.ff_solver.specs.Searches.{StandsAt};
+ghost use Rattle.ff_propagate.specs.Parts.{IsPart, AreTouching};
+ghost use Rattle.ff_solver.specs.Searches.{IsSearch};
 
 use arrayvec::ArrayVec;
 use ff_parts::parts;
@@ -90,9 +90,8 @@ fn call(
     search: &mut Search,
     turns: u64,
 ) -> Result<bool, NoMemory>
-    requires stands { StandsAt case.now.system.vars case.now.system.constraints search.old }
-    requires few { length case.now.system.constraints < 2 ^ 32 }
-    ensures { StandsAt case.now.system.vars case.now.system.constraints search.new }
+    requires { IsSearch search.old }
+    ensures { IsSearch search.new }
 {
     if search.used().checked_add(turns).is_none() {
         return Ok(false);
@@ -110,9 +109,8 @@ fn spend(
     search: &mut Search,
     budget: u64,
 ) -> Result<(), NoMemory>
-    requires stands { StandsAt case.now.system.vars case.now.system.constraints search.old }
-    requires few { length case.now.system.constraints < 2 ^ 32 }
-    ensures { StandsAt case.now.system.vars case.now.system.constraints search.new }
+    requires { IsSearch search.old }
+    ensures { IsSearch search.new }
 {
     for _ in 0..1000u32 {
         let left = budget.saturating_sub(search.used());
@@ -131,9 +129,8 @@ fn call_all(
     search: &mut Search,
     calls: &[u64],
 ) -> Result<(), NoMemory>
-    requires stands { StandsAt case.now.system.vars case.now.system.constraints search.old }
-    requires few { length case.now.system.constraints < 2 ^ 32 }
-    ensures { StandsAt case.now.system.vars case.now.system.constraints search.new }
+    requires { IsSearch search.old }
+    ensures { IsSearch search.new }
 {
     for &turns in calls {
         call(alloc, text, case, search, turns)?;
@@ -149,8 +146,7 @@ fn searched(
     search: &mut Search,
     turns: Turns,
 ) -> Result<(), NoMemory>
-    requires stands { StandsAt case.now.system.vars case.now.system.constraints search.old }
-    requires few { length case.now.system.constraints < 2 ^ 32 }
+    requires { IsSearch search.old }
 {
     match turns {
         Turns::Calls(calls) => call_all(alloc, text, case, search, calls)?,
@@ -171,6 +167,7 @@ fn part_text(
 ) -> Result<(), NoMemory>
     requires board { IsBoardOf case.now.system.vars case.now.system.constraints facts.now }
     requires part { IsPart case.now.system.vars case.now.system.constraints (value_at facts.now) part.now.vars }
+    requires touching { AreTouching case.now.system.constraints part.now.vars part.now.touching }
     requires few { length case.now.system.constraints < 2 ^ 32 }
 {
     text.push_str("part")?;

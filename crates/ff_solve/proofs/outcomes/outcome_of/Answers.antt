@@ -3,13 +3,13 @@ use Rattle.ff_solve.proofs.Searching.{gone_on, smaller, ended, spent}
 use Rattle.ff_solve.proofs.outcomes.outcome_of.Goals as goal
 
 pub search-smaller : goal.search-smaller
-search-smaller c = smaller _ _ _ _ _ _ _ _ _ _ c.search.invariant c.advance.ensures.stands c.advance.ensures.same (ap (λ n. c.args.budget - n) c.used.ensures) c.in_ok-values.ensures.advances c.in-Found.values c.in-Found.is
+search-smaller c = smaller _ _ _ _ _ _ _ _ _ c.search.invariant c.advance.ensures.stands c.advance.ensures.same (ap (λ n. c.args.budget - n) c.used.ensures) c.in_ok-values.ensures.advances c.in-Found.values c.in-Found.is
 
 pub search-preserved : goal.search-preserved
-search-preserved c = gone_on _ _ _ _ _ _ _ _ _ _ c.search.invariant c.advance.ensures.stands c.advance.ensures.same (ap (λ n. c.args.budget - n) c.used.ensures) c.in_ok-values.ensures.advances c.in-Found.values c.in-Found.is _ c.in_ok-push-in-Found.ensures.items
+search-preserved c = gone_on _ _ _ _ _ _ _ _ _ c.search.invariant c.advance.ensures.stands c.advance.ensures.same (ap (λ n. c.args.budget - n) c.used.ensures) c.in_ok-values.ensures.advances c.in-Found.values c.in-Found.is _ c.in_ok-push-in-Found.ensures.items
 
 pub returns-in-Finished : goal.returns-in-Finished
-returns-in-Finished c = ended _ _ _ _ _ _ _ _ _ _ c.search.invariant c.advance.ensures.stands c.advance.ensures.same (ap (λ n. c.args.budget - n) c.used.ensures) c.in_ok-values.ensures.advances c.in-Finished.is _ c.finished.ensures
+returns-in-Finished c = ended _ _ _ _ _ _ _ _ _ c.search.invariant c.advance.ensures.stands c.advance.ensures.same (ap (λ n. c.args.budget - n) c.used.ensures) c.in_ok-values.ensures.advances c.in-Finished.is _ c.finished.ensures
 
 pub returns-in-Spent : goal.returns-in-Spent
-returns-in-Spent c = spent _ _ _ _ _ _ _ _ _ _ c.search.invariant c.advance.ensures.stands c.advance.ensures.same (ap (λ n. c.args.budget - n) c.used.ensures) c.in_ok-values.ensures.advances c.in-Spent.is
+returns-in-Spent c = spent _ _ _ _ _ _ _ _ _ c.search.invariant c.advance.ensures.stands c.advance.ensures.same (ap (λ n. c.args.budget - n) c.used.ensures) c.in_ok-values.ensures.advances c.in-Spent.is

@@ -9,6 +9,9 @@ use Rattle.ff_solve.proofs.outcomes.outcomes_of.Goals as goal
 pub outcome_of-requires-clause-part : goal.outcome_of-requires-clause-part
 outcome_of-requires-clause-part c = c.requires.parts c.loop-k.k c.index-parts-k.result (slice_get_read c.args.parts.now _ _ _ refl c.loop-k-test.true c.index-parts-k.is)
 
+pub outcome_of-requires-clause-touching : goal.outcome_of-requires-clause-touching
+outcome_of-requires-clause-touching c = c.requires.touching c.loop-k.k c.index-parts-k.result (slice_get_read c.args.parts.now _ _ _ refl c.loop-k-test.true c.index-parts-k.is)
+
 pub loop-k-preserved : goal.loop-k-preserved
 loop-k-preserved c = record {
   as_many = ap length c.in_ok-push.ensures.items ∙ length-append _ _ ∙ ap (λ n. n + 1) c.loop-k.invariant.as_many;

@@ -2,7 +2,7 @@ use Rattle.std.proofs.Common.{◌≡◌, ◌∙◌, inr, ℕ, Some, arith, ap, s
 use Rattle.std.proofs.lemmas.List.{length-map}
 use Rattle.ff_propagate.specs.declared.parts.Part.{Part}
 use Rattle.ff_propagate.specs.Facts.{value_at}
-use Rattle.ff_propagate.specs.Parts.{IsPart}
+use Rattle.ff_propagate.specs.Parts.{IsPart, AreTouching}
 use Rattle.ff_solve.specs.Lines.{last_of, parts_line}
 use Rattle.ff_solve.specs.Outcomes.{AreOutcomes}
 use Rattle.ff_solve.proofs.Lists.{few_parts}
@@ -13,6 +13,11 @@ pub outcomes_of-requires-clause-parts : goal.outcomes_of-requires-clause-parts
 outcomes_of-requires-clause-parts c = subst
     (λ ps. (k : ℕ) (part : Part) → slice_get ps k ≡ Some part → IsPart c.args.case.now.system.vars c.args.case.now.system.constraints (value_at c.args.facts.now) part.vars)
     (sym c.as_slice.ensures) c.in_ok-parts.ensures.each
+
+pub outcomes_of-requires-clause-touching : goal.outcomes_of-requires-clause-touching
+outcomes_of-requires-clause-touching c = subst
+    (λ ps. (k : ℕ) (part : Part) → slice_get ps k ≡ Some part → AreTouching c.args.case.now.system.constraints part.vars part.touching)
+    (sym c.as_slice.ensures) c.in_ok-parts.ensures.touching
 
 pub overflow_cast-as_slice : goal.overflow_cast-as_slice
 overflow_cast-as_slice c = omega (arith, few_parts _ _ _ _ c.in_ok-parts.ensures.parts, length-map c.in_ok-parts.parts (λ (p : Part). p.vars), ap length c.as_slice-2.ensures)
