@@ -134,28 +134,34 @@ module _ (g : Sheet) (laws : HasBorderLaws g) (e : ℕ) (s : Place) (plain : IsP
     -- its chord, one way round or the other
     pub own_chord : IsChordOf g e s (OfEdge k) own ⊎ IsChordOf g e s (OfEdge k) (swapped own)
     own_chord = elim beside_of.beside [
-      | inl b ↦ inl (record {
-        edge = k;
-        is_edge = is.number;
-        on = is.on;
-        inner = is.inner;
-        left = lesser g k;
-        right = greater g k;
-        left_is = b.0;
-        right_is = b.1;
-        same = refl;
-      }, refl)
-      | inr b ↦ inr (record {
-        edge = k;
-        is_edge = is.number;
-        on = is.on;
-        inner = is.inner;
-        left = greater g k;
-        right = lesser g k;
-        left_is = b.0;
-        right_is = b.1;
-        same = refl;
-      }, refl)
+      | inl b ↦ inl (
+        record {
+          edge = k;
+          is_edge = is.number;
+          on = is.on;
+          inner = is.inner;
+          left = lesser g k;
+          right = greater g k;
+          left_is = b.0;
+          right_is = b.1;
+          same = refl;
+        },
+        refl,
+      )
+      | inr b ↦ inr (
+        record {
+          edge = k;
+          is_edge = is.number;
+          on = is.on;
+          inner = is.inner;
+          left = greater g k;
+          right = lesser g k;
+          left_is = b.0;
+          right_is = b.1;
+          same = refl;
+        },
+        refl,
+      )
     ]
 
     pub own_of : (f h : ℕ) (c : Side × Side) → left_face g k ≡ Some f → right_face g k ≡ Some h

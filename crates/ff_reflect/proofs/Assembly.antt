@@ -10,7 +10,7 @@ use Rattle.ff_types.specs.declared.faces.Faces.{Faces}
 use Rattle.ff_types.specs.declared.refusals.No.{No}
 use Rattle.ff_types.specs.declared.refusals.No.TheVariants.{Refused, NoMemory}
 use Rattle.ff_types.specs.declared.refusals.Refusal.{Refusal}
-use Rattle.ff_types.specs.declared.refusals.Refusal.TheVariants.{Parity, Inconsistent, Oversized}
+use Rattle.ff_types.specs.declared.refusals.Refusal.TheVariants.{Parity}
 use Rattle.ff_types.specs.Faces.{ring_at}
 use Rattle.ff_types.specs.Placing.{Meeting, AreFlags, IsFirstBroken}
 use Rattle.ff_types.specs.FoldRefusals.{placings, RefusesFolding}

@@ -13,7 +13,7 @@ use Rattle.ff_types.specs.declared.refusals.Refusal.{Refusal}
 use Rattle.ff_types.specs.declared.refusals.Refusal.TheVariants.{Parity, Inconsistent, Oversized}
 use Rattle.ff_types.specs.Faces.{ring_at}
 use Rattle.ff_types.specs.Foldings.{AreNear}
-use Rattle.ff_types.specs.FoldRefusals.{placings, IsTornAt, IsNearAt, IsTooFarAt, ArePlaced, RefusesFolding}
+use Rattle.ff_types.specs.FoldRefusals.{placings, IsTornAt, IsNearAt, IsTooFarAt, ArePlaced}
 use Rattle.ff_reflect.specs.Images.{IsAt}
 use Rattle.ff_reflect.specs.Sheets.{Paper, paper_of, HasFaces}
 use Rattle.ff_reflect.specs.Folding.{Excludes, HasNoNearFolding}

@@ -1,6 +1,6 @@
 -- What a run says, from its parts.
 use Rattle.std.proofs.Common.{◌≡◌, ℕ, List, [], Option, None, Some, refl, sym, subst, ◌⊎◌, inl, inr}
-use Rattle.ff_top.specs.Answer.{IsAnswer, HasWritten, IsRun, IsSettled, IsComplete}
+use Rattle.ff_top.specs.Answer.{IsAnswer, IsRun, IsSettled, IsComplete}
 use Rattle.ff_top.specs.Transfer.{Tells, Got, GotFront, GotPart}
 use Rattle.ff_top.specs.declared.status.Status.{Status}
 use Rattle.ff_top.specs.declared.status.Status.TheVariants.{ReadFault, WriteFault, NoMemory}

@@ -54,9 +54,9 @@ returns-in_err-append_families-clause-refused c =
     let efs = c.as_slice-edge_faces.result.now in
     let list = c.as_slice.result.now in
     let why : AreTooMany g c.args.pairs.now (length c.args.list) c.in_err-append_families.field-0.0 =
-        too_many c.requires.folded c.args.pairs.now c.requires.pairs eps efs list
-        (subst (AreEdgePairs g) (sym c.as_slice-edge_pairs.ensures) c.requires.edge_pairs)
-        (subst (AreEdgeFaces g) (sym c.as_slice-edge_faces.ensures) c.requires.edge_faces)
-        (subst (AreMixed g eps) (sym c.as_slice.ensures.value) c.in_ok-mixed.ensures) _ _
-        c.in_err-append_families.ensures.refused in
+    too_many c.requires.folded c.args.pairs.now c.requires.pairs eps efs list
+    (subst (AreEdgePairs g) (sym c.as_slice-edge_pairs.ensures) c.requires.edge_pairs)
+    (subst (AreEdgeFaces g) (sym c.as_slice-edge_faces.ensures) c.requires.edge_faces)
+    (subst (AreMixed g eps) (sym c.as_slice.ensures.value) c.in_ok-mixed.ensures) _ _
+    c.in_err-append_families.ensures.refused in
     search (rules, why)
