@@ -16,7 +16,7 @@ use Rattle.ff_types.specs.Cites.{Holds}
 use Rattle.ff_types.specs.Cases.{start_of, IsConstraintOf, IsCaseOf}
 use Rattle.ff_types.specs.FoldedPatterns.{IsFoldedPattern}
 use Rattle.ff_borders.proofs.Witnesses.{witnessed_hold}
-use Rattle.ff_cases.proofs.Truth.{at_place}
+use Rattle.ff_crossings.proofs.Truth.{at_place}
 use Rattle.ff_answers.specs.Layers.{AreAllPairs, AreAllCites}
 use Rattle.ff_answers.proofs.Constraints.{some_constraints}
 use Rattle.ff_problem.proofs.Assembly.{is_fit}

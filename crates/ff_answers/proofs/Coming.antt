@@ -15,8 +15,8 @@ use Rattle.ff_types.specs.Sheets.{Sheet, sheet_of}
 use Rattle.ff_types.specs.Cases.{key, IsCaseOf}
 use Rattle.ff_types.specs.FoldedPatterns.{IsFoldedPattern}
 use Rattle.ff_borders.proofs.Witnesses.{witnessed_hold}
-use Rattle.ff_cases.proofs.Alike.{lists_apart}
-use Rattle.ff_cases.proofs.Truth.{cases_are_true}
+use Rattle.ff_crossings.proofs.Alike.{lists_apart}
+use Rattle.ff_crossings.proofs.Truth.{cases_are_true}
 use Rattle.ff_types.specs.declared.limits.TheConstants.{MOST_CELLS, MOST_ENTRIES}
 use Rattle.ff_cells.specs.SlabCells.{AreOneEach, entries, HasFewCells}
 use Rattle.ff_types.specs.declared.limits.TheConstants.{MOST_PAIRS}

@@ -4,7 +4,7 @@ pub mod Seats
 pub mod ThreePlaces
 pub mod AlternatingChords
 pub mod SwappedChords
-pub mod RowTests
+mod RowTests
 pub mod RowOrders
 pub mod ChordLists
 pub mod BorderLaws
@@ -17,3 +17,11 @@ pub mod PlainOrders
 pub mod CiteRows
 pub mod PlainRows
 pub mod RowStackings
+pub mod PairSets
+pub mod CaseRows
+pub mod Creases
+pub mod Truth
+pub mod SortedLists
+pub mod Alike
+pub mod Behind
+pub mod Pinning

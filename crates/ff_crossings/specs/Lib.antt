@@ -4,3 +4,5 @@ pub mod RowMeanings
 pub mod ChordMembers
 pub mod CrossingLaws
 pub mod Crossed
+pub mod CaseLaws
+pub mod Pins

@@ -21,9 +21,9 @@ use Rattle.ff_types.specs.Cases.{key, IsConstraintOf}
 use Rattle.ff_types.specs.FoldedPatterns.{IsFoldedPattern}
 use Rattle.ff_types.proofs.SortedPairs.{place_stands}
 use Rattle.ff_borders.proofs.Terms.{terms_differ}
-use Rattle.ff_cases.proofs.CaseRows.{terms_counted}
-use Rattle.ff_cases.proofs.Alike.{mapped, unmapped}
-use Rattle.ff_cases.proofs.Behind.{in_first, in_second, Where, in_either}
+use Rattle.ff_crossings.proofs.CaseRows.{terms_counted}
+use Rattle.ff_crossings.proofs.Alike.{mapped, unmapped}
+use Rattle.ff_crossings.proofs.Behind.{in_first, in_second, Where, in_either}
 use Rattle.ff_cells.specs.declared.cell.Cell.{Cell}
 use Rattle.ff_cells.specs.FaceSets.{HaveFaceSets}
 use Rattle.ff_trans.specs.Triples.{AreTriples}

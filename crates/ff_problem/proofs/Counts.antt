@@ -6,8 +6,8 @@ use Rattle.ff_types.specs.Pairs.{is_before, AreSorted}
 use Rattle.ff_types.specs.Sheets.{Sheet}
 use Rattle.ff_types.specs.Inside.{Overlap}
 use Rattle.ff_types.specs.Cases.{key, IsCaseOf}
-use Rattle.ff_cases.proofs.SortedLists.{InOrder, Stands, Apart, no_longer, no_more}
-use Rattle.ff_cases.proofs.Alike.{pairs_apart, mapped, unmapped}
+use Rattle.ff_crossings.proofs.SortedLists.{InOrder, Stands, Apart, no_longer, no_more}
+use Rattle.ff_crossings.proofs.Alike.{pairs_apart, mapped, unmapped}
 use Rattle.ff_types.specs.declared.limits.TheConstants.{MOST_PAIRS}
 use Rattle.ff_types.specs.declared.limits.TheConstants.{MOST_CONSTRAINTS}
 use Rattle.ff_problem.specs.Limits.{HasManyPairs, HasManyConstraints}

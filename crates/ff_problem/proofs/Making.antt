@@ -29,8 +29,8 @@ use Rattle.ff_problem.specs.Layers.{AreLayers, AreConstraints, IsCaseWithin}
 use Rattle.ff_problem.proofs.Assembly.{all_small, all_witnessed, all_hold, all_there, all_sorted, constraints_are, is_fit}
 use Rattle.ff_problem.proofs.CreaseStarts.{starts_fit, by_creases, starts_rise}
 use Rattle.ff_problem.proofs.Counts.{no_more_pairs, no_more_constraints}
-use Rattle.ff_cases.proofs.Truth.{cases_are_true}
-use Rattle.ff_cases.proofs.Alike.{mapped, unmapped}
+use Rattle.ff_crossings.proofs.Truth.{cases_are_true}
+use Rattle.ff_crossings.proofs.Alike.{mapped, unmapped}
 
 module _ {pattern : Pattern} {faces : Faces} {folded : Folded} (h : IsFoldedPattern pattern faces folded) (pairs : List (ℕ × ℕ)) (list : List Listed)
     (c : AreConstraints (sheet_of pattern faces folded) pairs list) where

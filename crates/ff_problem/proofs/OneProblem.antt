@@ -16,7 +16,7 @@ use Rattle.ff_types.specs.Rings.{Goes}
 use Rattle.ff_types.specs.Drawings.{IsDrawing}
 use Rattle.ff_types.specs.Sides.{AreFaces, AreSides, IsFaceOf, IsMarkOf, sides_at}
 use Rattle.ff_types.specs.FoldedPatterns.{IsFoldedPattern}
-use Rattle.ff_cases.proofs.Alike.{by_places, cases_are_alike}
+use Rattle.ff_crossings.proofs.Alike.{by_places, cases_are_alike}
 use Rattle.ff_types.specs.declared.refusals.No.TheVariants.{Refused}
 use Rattle.ff_types.specs.FoldRefusals.{RefusesFolding}
 use Rattle.ff_types.specs.Sheets.{Sheet, sheet_of}

@@ -23,7 +23,7 @@ use Rattle.ff_types.specs.Segments.{ShareSegment, HasEdgeInside}
 use Rattle.ff_types.specs.FoldedPatterns.{IsFoldedPattern}
 use Rattle.ff_borders.proofs.TwoSides.{folded_edge, flat_edge, not_both_marks}
 use Rattle.ff_borders.proofs.Running.{sharing_agrees}
-use Rattle.ff_cases.proofs.Alike.{lists_apart, pairs_apart, mapped, unmapped}
+use Rattle.ff_crossings.proofs.Alike.{lists_apart, pairs_apart, mapped, unmapped}
 use Rattle.ff_cells.specs.declared.cell.Cell.{Cell}
 use Rattle.ff_cells.specs.FaceSets.{HaveFaceSets}
 use Rattle.ff_edges.specs.declared.edge_pair.EdgePair.{EdgePair}

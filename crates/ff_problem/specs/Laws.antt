@@ -5,7 +5,7 @@ use Rattle.ff_types.specs.declared.faces.Faces.{Faces}
 use Rattle.ff_types.specs.declared.faces.Folded.{Folded}
 use Rattle.ff_types.specs.declared.cases.Case.{Case}
 use Rattle.ff_types.specs.declared.refusals.Refusal.{Refusal}
-use Rattle.ff_cases.specs.CaseLaws.{AreAlike}
+use Rattle.ff_crossings.specs.CaseLaws.{AreAlike}
 use Rattle.ff_problem.specs.Problems.{IsProblem, RefusesProblem}
 
 -- the same faces and folding, and cases that differ at most in the places of their cites

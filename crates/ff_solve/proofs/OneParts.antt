@@ -4,7 +4,7 @@ use Rattle.std.proofs.lemmas.Option.{slice_get_within, slice_get-get_or, get_or_
 use Rattle.ff_tables.specs.declared.orders.Order.{Order}
 use Rattle.ff_tables.specs.declared.terms.Constraint.{Constraint}
 use Rattle.ff_propagate.specs.Parts.{AreParts, IsPart, IsUndecided, AreConnected}
-use Rattle.ff_cases.proofs.SortedLists.{InOrder, Stands, same_lists}
+use Rattle.ff_crossings.proofs.SortedLists.{InOrder, Stands, same_lists}
 
 stands_in : (xs : List ℕ) (x : ℕ) → Stands xs x → Contains xs x
 stands_in xs x (n, e) = (n, slice_get_within xs n x e, get_or_from_slice_get xs n x x e)

@@ -18,9 +18,9 @@ use Rattle.ff_propagate.specs.Parts.{AreParts}
 use Rattle.ff_parts.specs.Lists.{vars_of}
 use Rattle.ff_report.specs.Heads.{lines_of, counts_line, face_of, pair_line}
 use Rattle.ff_report.specs.declared.parts.PartOutcome.{PartOutcome}
-use Rattle.ff_cases.specs.CaseLaws.{AreAlike}
-use Rattle.ff_cases.proofs.Alike.{by_places}
-use Rattle.ff_cases.proofs.Truth.{at_place}
+use Rattle.ff_crossings.specs.CaseLaws.{AreAlike}
+use Rattle.ff_crossings.proofs.Alike.{by_places}
+use Rattle.ff_crossings.proofs.Truth.{at_place}
 use Rattle.ff_solve.specs.declared.texts.Last.{Last}
 use Rattle.ff_solve.specs.declared.texts.Last.TheVariants.{Impossible}
 use Rattle.ff_solve.specs.Lines.{last_of, part_at, parts_line, clash_line, last_line, clash_report, board_text}

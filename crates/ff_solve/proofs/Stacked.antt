@@ -18,9 +18,9 @@ use Rattle.ff_propagate.specs.Solutions.{solutions_of}
 use Rattle.ff_propagate.specs.Choices.{IsChoice, IsAssignmentOf, value_of}
 use Rattle.ff_parts.specs.Factors.{Factors, IsAllowed, HasAssignment}
 use Rattle.ff_parts.proofs.Factoring.{clash_allows_none}
-use Rattle.ff_cases.specs.Pins.{AreListedPins, with_pins}
-use Rattle.ff_cases.proofs.PairSets.{Numbered, numbered, lower_value}
-use Rattle.ff_cases.proofs.Pinning.{pins_are_held}
+use Rattle.ff_crossings.specs.Pins.{AreListedPins, with_pins}
+use Rattle.ff_crossings.proofs.PairSets.{Numbered, numbered, lower_value}
+use Rattle.ff_crossings.proofs.Pinning.{pins_are_held}
 use Rattle.ff_solve.specs.Choices.{IsKept, IsSetOf, HasStacking, HasChoice, AreStackings}
 use Rattle.ff_solve.specs.Laws.{ChoicesAreStackings, ClashHasNone, StartsAreStackings, StartClashHasNone}
 

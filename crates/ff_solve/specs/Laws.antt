@@ -10,8 +10,8 @@ use Rattle.ff_types.specs.Cases.{IsCaseOf}
 use Rattle.ff_types.specs.Assignments.{IsTrueTo}
 use Rattle.ff_propagate.specs.Closure.{Clashes, Gives}
 use Rattle.ff_parts.specs.Factors.{Factors}
-use Rattle.ff_cases.specs.CaseLaws.{AreAlike}
-use Rattle.ff_cases.specs.Pins.{AreListedPins, with_pins}
+use Rattle.ff_crossings.specs.CaseLaws.{AreAlike}
+use Rattle.ff_crossings.specs.Pins.{AreListedPins, with_pins}
 use Rattle.ff_solve.specs.declared.texts.Last.{Last}
 use Rattle.ff_solve.specs.Choices.{IsKept, AreStackings}
 use Rattle.ff_solve.specs.Reports.{IsReport}

@@ -18,7 +18,7 @@ use Rattle.ff_solve.proofs.Stacked.{starts_are_stackings, start_clash_has_none}
 use Rattle.ff_propagate.specs.Facts.{value_at}
 use Rattle.ff_parts.specs.Lists.{vars_of}
 use Rattle.ff_borders.proofs.Witnesses.{witnessed_hold}
-use Rattle.ff_cases.proofs.Alike.{lists_apart}
+use Rattle.ff_crossings.proofs.Alike.{lists_apart}
 use Rattle.ff_types.specs.declared.limits.TheConstants.{MOST_CONSTRAINTS}
 use Rattle.ff_report.specs.Heads.{FitFolding}
 use Rattle.ff_top.specs.Solving.{ReadsProblem, IsSolved}

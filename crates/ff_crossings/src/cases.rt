@@ -1,7 +1,7 @@
 //! What the case of a folded sheet says of its stackings, and that a sheet has one case.
 ghost use Rattle.ff_borders.specs.Folded.{OfEachFolded};
-ghost use Rattle.ff_cases.specs.CaseLaws.{CasesAreAlike, CasesAreTrue};
-ghost use Rattle.ff_cases.specs.Pins.{PinsAreHeld};
+ghost use Rattle.ff_crossings.specs.CaseLaws.{CasesAreAlike, CasesAreTrue};
+ghost use Rattle.ff_crossings.specs.Pins.{PinsAreHeld};
 
 /// The case of a folded sheet is true to it: an assignment meets its constraints exactly where its set of pairs is a
 /// geometric stacking, and holds its starts exactly where that keeps the creases; each geometric stacking is the set of

@@ -25,11 +25,11 @@ use Rattle.ff_crossings.proofs.RowStackings.{rows_stack}
 use Rattle.ff_crossings.proofs.CiteRows.{cites_have_rows}
 use Rattle.ff_crossings.proofs.BorderLaws.{folded_laws}
 use Rattle.ff_borders.proofs.Witnesses.{witnessed_hold}
-use Rattle.ff_cases.specs.CaseLaws.{CasesAreTrue}
+use Rattle.ff_crossings.specs.CaseLaws.{CasesAreTrue}
 use Rattle.ff_types.proofs.FewFaces.{overlap_turned}
-use Rattle.ff_cases.proofs.PairSets.{Numbered, numbered, there_overlap, overlap_number, orders_overlaps, lower_value, upper_value, no_value, either_order, lesser_first, greater_first}
-use Rattle.ff_cases.proofs.CaseRows.{row_from_set, set_from_row, same_terms}
-use Rattle.ff_cases.proofs.Creases.{creases_kept}
+use Rattle.ff_crossings.proofs.PairSets.{Numbered, numbered, there_overlap, overlap_number, orders_overlaps, lower_value, upper_value, no_value, either_order, lesser_first, greater_first}
+use Rattle.ff_crossings.proofs.CaseRows.{row_from_set, set_from_row, same_terms}
+use Rattle.ff_crossings.proofs.Creases.{creases_kept}
 
 pub at_place : {A : Type 0} (xs : List A) (n : ℕ) → n < length xs → (x : A) × (slice_get xs n ≡ Some x)
 at_place {A} xs n l = by (slice_get xs n) refl where

@@ -19,11 +19,11 @@ use Rattle.ff_types.specs.Cases.{key, start_of, IsCaseOf, IsTermOf, IsConstraint
 use Rattle.ff_types.specs.FoldedPatterns.{IsFoldedPattern}
 use Rattle.ff_types.proofs.SortedPairs.{before_is}
 use Rattle.ff_borders.proofs.Witnesses.{witnessed_hold}
-use Rattle.ff_cases.specs.CaseLaws.{CasesAreAlike}
+use Rattle.ff_crossings.specs.CaseLaws.{CasesAreAlike}
 use Rattle.std.specs.List.{filter_map}
-use Rattle.ff_cases.proofs.Truth.{at_place}
-use Rattle.ff_cases.proofs.CaseRows.{same_terms}
-use Rattle.ff_cases.proofs.SortedLists.{InOrder, Stands, same_lists}
+use Rattle.ff_crossings.proofs.Truth.{at_place}
+use Rattle.ff_crossings.proofs.CaseRows.{same_terms}
+use Rattle.ff_crossings.proofs.SortedLists.{InOrder, Stands, same_lists}
 
 -- ---- lists
 

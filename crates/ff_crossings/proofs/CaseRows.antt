@@ -20,7 +20,7 @@ use Rattle.ff_types.specs.Cites.{lesser, greater}
 use Rattle.ff_types.specs.Terms.{kind_of, terms_of, value_in, HasItsRow}
 use Rattle.ff_types.specs.Assignments.{says_above, says_below, set_by}
 use Rattle.ff_crossings.proofs.RowTests.{row_length, row_passes}
-use Rattle.ff_cases.proofs.PairSets.{Numbered, numbered, lower_value, upper_value}
+use Rattle.ff_crossings.proofs.PairSets.{Numbered, numbered, lower_value, upper_value}
 
 turn_back : (b : Bool) (s : Order) → turn b (turn b s) ≡ s
 turn_back false s = refl

@@ -12,10 +12,10 @@ use Rattle.ff_types.specs.Pairs.{number_of}
 use Rattle.ff_types.specs.Sheets.{Sheet}
 use Rattle.ff_types.specs.Keeping.{KeepsCreases, KeepsOrder, KeepsPins}
 use Rattle.ff_types.specs.Assignments.{says_above, says_below, set_by, HoldsStarts, IsTrueTo}
-use Rattle.ff_cases.specs.Pins.{IsListedPin, AreListedPins, number_or, pinned_value, given_of, with_pins, PinsAreHeld}
-use Rattle.ff_cases.proofs.Alike.{mapped, unmapped}
-use Rattle.ff_cases.proofs.Behind.{in_first, in_second, Where, in_either}
-use Rattle.ff_cases.proofs.PairSets.{lower_value, upper_value, turned_number, either_order}
+use Rattle.ff_crossings.specs.Pins.{IsListedPin, AreListedPins, number_or, pinned_value, given_of, with_pins, PinsAreHeld}
+use Rattle.ff_crossings.proofs.Alike.{mapped, unmapped}
+use Rattle.ff_crossings.proofs.Behind.{in_first, in_second, Where, in_either}
+use Rattle.ff_crossings.proofs.PairSets.{lower_value, upper_value, turned_number, either_order}
 
 above_is : (s : Order) → IsTrue (says_above (Some s)) → s ≡ Above
 above_is Above t = refl

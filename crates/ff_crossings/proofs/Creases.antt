@@ -24,7 +24,7 @@ use Rattle.ff_types.specs.FoldedPatterns.{IsFoldedPattern}
 use Rattle.ff_types.proofs.Memberships.{no_member, by_member, first_member, later_member, in_range, range_in}
 use Rattle.ff_borders.proofs.TwoSides.{HasSides, both_sides, by_order}
 use Rattle.ff_borders.proofs.Terms.{crease_faces_overlap}
-use Rattle.ff_cases.proofs.PairSets.{overlap_number, turned_number, lower_value, upper_value}
+use Rattle.ff_crossings.proofs.PairSets.{overlap_number, turned_number, lower_value, upper_value}
 
 -- ---- lists
 

@@ -1,5 +1,0 @@
-use Rattle.ff_cases.proofs.Alike.{cases_are_alike}
-use Rattle.ff_cases.proofs.laws.cases_are_alike.Goals as goal
-
-pub returns : goal.returns
-returns c = λ pattern faces folded h. cases_are_alike h
