@@ -1,33 +1,33 @@
-pub mod Fractions
+mod Fractions
 pub mod Gaps
-pub mod Between
+mod Between
 pub mod Cuts
-pub mod Corners
-pub mod Starts
-pub mod Nexts
-pub mod Ends
-pub mod Stacks
-pub mod Tidy
+mod Corners
+mod Starts
+mod Nexts
+mod Ends
+mod Stacks
+mod Tidy
 pub mod Passing
-pub mod Emitting
-pub mod Sweeping
-pub mod Exact
-pub mod Strips
-pub mod Reached
-pub mod Stepping
-pub mod FaceRings
-pub mod Faces
+mod Emitting
+mod Sweeping
+mod Exact
+mod Strips
+mod Reached
+mod Stepping
+mod FaceRings
+mod Faces
 pub mod BarEdges
 pub mod FaceLists
 pub mod Drawn
 pub mod Slices
-pub mod SliceCells
-pub mod Rows
-pub mod Merging
-pub mod GapCells
-pub mod AllXs
-pub mod Sweeps
-pub mod Moved
+mod SliceCells
+mod Rows
+mod Merging
+mod GapCells
+mod AllXs
+mod Sweeps
+mod Moved
 pub mod OneCount
 pub mod Complete
 pub mod BarsThere

@@ -1,4 +1,5 @@
 -- The orders of places by x, and of lines by height at two places.
+-- For the proofs of this crate alone.
 use Rattle.std.specs.Prelude.{pos, ◌*ℤ◌, ◌<ℤ◌, Bool}
 use Rattle.std.specs.declared.cmp.Ordering.{Ordering}
 use Rattle.std.specs.Ordering.{int_cmp, is_lt, ordering_then}

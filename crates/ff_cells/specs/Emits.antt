@@ -1,4 +1,5 @@
 -- The cells of a slab: one for each gap between neighbours that is open and in a face.
+-- For the proofs of this crate alone.
 use Rattle.std.specs.Prelude.{ℕ, zero, suc, ◌≡◌, ◌⊎◌, ◌↔◌, ◌+◌, ◌<◌, List, [], ◌∷◌, ◌++◌, length, slice_index_or, pos, ◌<ℤ◌}
 use Rattle.std.specs.List.{Contains}
 use Rattle.std.specs.List.Sorted.{IsStrictlyIncreasing}

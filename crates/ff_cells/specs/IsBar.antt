@@ -1,4 +1,5 @@
 -- What a bar is: an edge's image that isn't vertical, from its left end to its right one.
+-- For the proofs of this crate alone.
 use Rattle.std.specs.Prelude.{◌≡◌, ◌<ℤ◌}
 use Rattle.ff_whole.specs.Points.{IsNear}
 use Rattle.ff_whole.specs.Places.{through as line_through}

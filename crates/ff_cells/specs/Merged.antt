@@ -1,4 +1,5 @@
 -- The first cell of each different set of faces, in the order of the cells.
+-- For the proofs of this crate alone.
 use Rattle.std.specs.Prelude.{ℕ, ◌≡◌, Bool, List, [], ◌∷◌, ◌++◌, Vec, is_some, if◌then◌else◌}
 use Rattle.std.specs.List.{list_any}
 use Rattle.std.specs.Ordering.{is_eq, nat_cmp}

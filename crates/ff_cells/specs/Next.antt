@@ -1,4 +1,5 @@
 -- The next border to the right of a place, among bars that stand in order there.
+-- For the proofs of this crate alone.
 use Rattle.std.specs.Prelude.{ℕ, ◌≡◌, ◌⊎◌, ◌+◌, ◌<◌, ◌≤◌, List, length, slice_index_or, pos, ◌<ℤ◌, ◌≤ℤ◌, Bool, true, false, ◌&&◌, int_lt}
 use Rattle.std.specs.List.{sum_by, count_by}
 use Rattle.ff_whole.specs.Places.{slant}

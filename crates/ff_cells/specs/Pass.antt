@@ -1,4 +1,5 @@
 -- How a bar changes the faces that are open.
+-- For the proofs of this crate alone.
 use Rattle.std.specs.Prelude.{ℕ, ◌≡◌, ◌≢◌, ◌⊎◌, List, Bool, true, false}
 use Rattle.std.specs.List.{Contains}
 

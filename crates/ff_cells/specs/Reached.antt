@@ -1,4 +1,5 @@
 -- The bars that a sweep from left to right has come to.
+-- For the proofs of this crate alone.
 use Rattle.std.specs.Prelude.{ℕ, ℤ, ◌≡◌, ◌<◌, ◌≤◌, ◌<ℤ◌, ◌≤ℤ◌, Bool, List, length, filter, take, slice_index_or, int_le}
 use Rattle.std.specs.Ordering.{int_cmp, is_lt}
 use Rattle.std.specs.List.Sorted.{IsSortedBy}

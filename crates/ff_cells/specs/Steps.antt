@@ -1,4 +1,5 @@
 -- The bars of a folded sheet: the images of its faces' ring edges that aren't vertical.
+-- For the proofs of this crate alone.
 use Rattle.std.specs.Prelude.{ℕ, ◌≡◌, ◌⊎◌, ◌<◌, Bool, true, false, List, [], ◌∷◌, ◌++◌, length}
 use Rattle.std.specs.List.{Contains}
 use Rattle.ff_whole.specs.declared.points.Pt.{Pt}

@@ -1,4 +1,5 @@
 -- Why a sweep ends before its last slab: there are too many cells, or memory was refused.
+-- For the proofs of this crate alone.
 use Rattle.std.specs.Prelude.{ℕ, ℤ, ◌≡◌, ◌+◌, ◌<◌, ◌≤◌, false, List, ◌++◌, length, filter}
 use Rattle.ff_types.specs.declared.refusals.No.{No}
 use Rattle.ff_types.specs.declared.refusals.No.TheVariants.{Refused, NoMemory}

@@ -1,4 +1,5 @@
 -- The bars of a strip between two neighbouring ends of bars.
+-- For the proofs of this crate alone.
 use Rattle.std.specs.Prelude.{ℕ, zero, suc, ◌+◌, ◌≡◌, List, [], ◌++◌, filter, slice_index_or, ℤ, pos, Bool, false, ◌&&◌, int_le}
 use Rattle.ff_whole.specs.declared.places.Place.{Place}
 use Rattle.ff_cells.specs.Before.{x_before}

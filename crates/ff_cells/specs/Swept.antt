@@ -1,4 +1,5 @@
 -- The cells of the slabs of a strip, from left to right.
+-- For the proofs of this crate alone.
 use Rattle.std.specs.Prelude.{ℕ, zero, suc, ◌≡◌, ◌++◌, List, [], length, pos, ◌<ℤ◌}
 use Rattle.std.specs.List.Sorted.{IsPermutation}
 use Rattle.ff_whole.specs.declared.places.Place.{Place}

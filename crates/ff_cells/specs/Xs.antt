@@ -1,4 +1,5 @@
 -- The x of points, from left to right.
+-- For the proofs of this crate alone.
 use Rattle.std.specs.Prelude.{ℕ, ℤ, Bool, List, map, length, ◌-◌, ◌≤◌, IsSorted}
 use Rattle.std.specs.Ordering.{int_cmp}
 use Rattle.std.specs.List.Sorted.{IsPermutation}

@@ -1,7 +1,7 @@
 pub mod ListedFaces
 pub mod Triples
-pub mod Seats
-pub mod ThreePlaces
+mod Seats
+mod ThreePlaces
 pub mod AlternatingChords
 pub mod SwappedChords
 mod RowTests
@@ -13,13 +13,13 @@ pub mod ChordForms
 pub mod FormChords
 pub mod Matchings
 pub mod Comparing
-pub mod PlainOrders
+mod PlainOrders
 pub mod CiteRows
-pub mod PlainRows
+mod PlainRows
 pub mod RowStackings
 pub mod PairSets
 pub mod CaseRows
-pub mod Creases
+mod Creases
 pub mod Truth
 pub mod SortedLists
 pub mod Alike

@@ -1,6 +1,6 @@
-pub mod Marks
-pub mod Follows
-pub mod Reaches
-pub mod Rows
+mod Marks
+mod Follows
+mod Reaches
+mod Rows
 pub mod Widths
-pub mod PairsOf
+mod PairsOf

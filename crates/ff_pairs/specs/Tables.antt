@@ -1,4 +1,5 @@
 -- A square table of flags, a row for each face: which pairs have been met in the cells so far.
+-- For the proofs of this crate alone.
 use Rattle.std.specs.Prelude.{◌≡◌, ℕ, ◌+◌, ◌*◌, ◌<◌, ◌≤◌, ◌⊎◌, ◌↔◌, Bool, false, List, length, slice_index_or, slice_get, Some, IsTrue}
 use Rattle.ff_types.specs.Pairs.{AreSorted}
 use Rattle.ff_cells.specs.declared.cell.Cell.{Cell}

@@ -1,9 +1,9 @@
 pub mod Reaching
-pub mod Following
-pub mod Gathered
-pub mod Beginning
+mod Following
+mod Gathered
+mod Beginning
 pub mod Classes
 pub mod Factoring
-pub mod Zipped
-pub mod Touching
-pub mod Apart
+mod Zipped
+mod Touching
+mod Apart

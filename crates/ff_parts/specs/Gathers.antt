@@ -1,4 +1,5 @@
 -- The variables of each label.
+-- For the proofs of this crate alone.
 use Rattle.std.specs.Prelude.{◌≡◌, ℕ, zero, suc, ◌<◌, ◌==◌, ◌++◌, List, [], ◌∷◌, length, map, slice_index, slice_index_or, slice_set, if◌then◌else◌, Vec}
 use Rattle.std.specs.declared.alloc.Global.{Global}
 

@@ -1,4 +1,5 @@
 -- What the layers of a folded sheet give on the way to its case. This project's own.
+-- For the proofs of this crate alone.
 use Rattle.std.specs.Prelude.{◌≡◌, ℕ, ◌<◌, ◌≤◌, ◌↔◌, List, ◌++◌, length, slice_get, Some}
 use Rattle.std.specs.List.{All}
 use Rattle.ff_types.specs.declared.cites.Listed.{Listed}

@@ -1,4 +1,5 @@
 -- The flags that the first meetings give, and meetings that break the rule of flags.
+-- For the proofs of this crate alone.
 use Rattle.std.specs.Prelude.{◌≡◌, ℕ, Bool, true, not, if◌then◌else◌, List, length, slice_get, Some}
 use Rattle.std.specs.List.{Contains}
 use Rattle.ff_types.specs.declared.patterns.Mark.{Mark}

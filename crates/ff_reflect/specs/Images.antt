@@ -1,4 +1,5 @@
 -- Where a face's third vertex goes, from where the two ends of an edge of it go; flat folding by reflections.
+-- For the proofs of this crate alone.
 use Rattle.std.specs.Prelude.{◌≡◌, ◌+ℤ◌, ◌-ℤ◌, ◌*ℤ◌, ℤ, Bool, List}
 use Rattle.ff_whole.specs.Convex.{point_at}
 use Rattle.ff_types.specs.declared.patterns.EdgeEnds.{EdgeEnds}

@@ -1,4 +1,5 @@
 -- Chains of edges, in which the edge that joins two vertices is found.
+-- For the proofs of this crate alone.
 use Rattle.std.specs.Prelude.{◌≡◌, ◌≢◌, ℕ, ◌+◌, ◌*◌, ◌%◌, ◌<◌, min, max, List, length, Option, Some, None, IsTrue, slice_index_or}
 use Rattle.ff_types.specs.declared.patterns.EdgeEnds.{EdgeEnds}
 use Rattle.ff_types.specs.Patterns.{edge_at}

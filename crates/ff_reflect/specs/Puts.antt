@@ -1,4 +1,5 @@
 -- What placing one vertex does to the points so far.
+-- For the proofs of this crate alone.
 use Rattle.std.specs.Prelude.{◌≡◌, ◌≢◌, ℕ, ◌<◌, ◌⊎◌, pos, ℤ, ◌*ℤ◌, ◌<ℤ◌, Bool, true, false, List, length, slice_index_or, slice_set, replicate}
 use Rattle.std.specs.List.{Contains}
 use Rattle.ff_whole.specs.declared.points.Pt.{Pt}

@@ -1,4 +1,5 @@
 -- What stands while faces are placed: the points so far, at the least scale that makes them whole.
+-- For the proofs of this crate alone.
 use Rattle.std.specs.Prelude.{◌≡◌, ℕ, ◌*◌, pos, ℤ, ◌<ℤ◌, true, false, Bool, List, length, unsigned_abs}
 use Prim.Native.Nat.{◌∣◌}
 use Rattle.std.specs.List.{Contains}

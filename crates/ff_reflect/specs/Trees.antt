@@ -1,4 +1,5 @@
 -- The meetings over which the faces of the placing order were first met.
+-- For the proofs of this crate alone.
 use Rattle.std.specs.Prelude.{◌≡◌, ℕ, ◌<◌, false, List, [], ◌∷◌, map, slice_get, Some, if◌then◌else◌}
 use Rattle.std.specs.List.{Contains}
 use Rattle.ff_types.specs.Placing.{Meeting, has_number}

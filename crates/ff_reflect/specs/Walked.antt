@@ -1,4 +1,5 @@
 -- The walk over the faces: what it has met, and which of it was first.
+-- For the proofs of this crate alone.
 use Rattle.std.specs.Prelude.{◌≡◌, ℕ, suc, ◌+◌, ◌<◌, Bool, true, false, List, [], ◌∷◌, map, length, slice_index_or}
 use Rattle.std.specs.List.{Contains}
 use Rattle.ff_types.specs.Placing.{Meeting, meetings, has_number}

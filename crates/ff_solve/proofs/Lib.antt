@@ -2,7 +2,7 @@ mod Searching
 mod Lists
 mod Pieces
 mod Boards
-pub mod OneOutcome
-pub mod OneParts
+mod OneOutcome
+mod OneParts
 pub mod OneReport
 pub mod Stacked

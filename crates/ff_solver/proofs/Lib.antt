@@ -1,18 +1,18 @@
-pub mod Lists
+mod Lists
 pub mod Nodes
 pub mod Listing
-pub mod Setting
-pub mod Undoing
-pub mod Visits
+mod Setting
+mod Undoing
+mod Visits
 pub mod Branching
 pub mod Inverting
-pub mod Visited
+mod Visited
 pub mod Running
 pub mod Existing
 pub mod Unique
-pub mod Touching
-pub mod Copies
-pub mod Copied
-pub mod OwnTrees
-pub mod Advancing
-pub mod Started
+mod Touching
+mod Copies
+mod Copied
+mod OwnTrees
+mod Advancing
+mod Started

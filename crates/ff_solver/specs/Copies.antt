@@ -1,4 +1,5 @@
 -- A part's own system: its variables and the constraints that touch it, with numbers of their own.
+-- For the proofs of this crate alone.
 use Rattle.std.specs.Prelude.{◌≡◌, ℕ, ◌<◌, ◌≤◌, ◌^◌, List, length, slice_get, slice_index, Option, Some, None, Contains}
 use Rattle.ff_tables.specs.declared.orders.Order.{Order}
 use Rattle.ff_tables.specs.declared.terms.Term.{Term}

@@ -1,11 +1,11 @@
-pub mod OneSide
-pub mod Growing
-pub mod Rising
-pub mod Keys
+mod OneSide
+mod Growing
+mod Rising
+mod Keys
 pub mod Flags
-pub mod Sorting
-pub mod Numbered
-pub mod Families
-pub mod Given
-pub mod Orders
-pub mod Whole
+mod Sorting
+mod Numbered
+mod Families
+mod Given
+mod Orders
+mod Whole

@@ -1,5 +1,6 @@
 -- How the list is made, family by family, from the edges that run along each other and those that run inside
 -- faces.
+-- For the proofs of this crate alone.
 use Rattle.std.specs.Prelude.{◌≡◌, ℕ, ◌<◌, Bool, ◌&&◌, List, ◌++◌, map, if◌then◌else◌, nat_lt, Option, Some, None, option_map}
 use Rattle.std.specs.declared.cmp.Ordering.{Ordering}
 use Rattle.std.specs.Ordering.{ordering_then, nat_cmp}

@@ -1,4 +1,5 @@
 -- The exit status of each way in which a run ends. This project's own.
+-- For the proofs of this crate alone.
 use Rattle.std.specs.Prelude.{ℕ}
 use Rattle.ff_top.specs.declared.status.Status.{Status}
 use Rattle.ff_top.specs.declared.status.Status.TheVariants.{Done, Impossible, Refused, Unfinished, ReadFault, WriteFault, NoMemory, Usage}

@@ -1,4 +1,5 @@
 -- The pieces of what a run writes. This project's own.
+-- For the proofs of this crate alone.
 use Rattle.std.specs.Prelude.{ℕ, suc, List, length}
 use Rattle.ff_report.specs.Heads.{lines_of}
 use Rattle.ff_solve.specs.Written.{piece_at}

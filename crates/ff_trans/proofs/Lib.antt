@@ -1,5 +1,5 @@
-pub mod Marks
-pub mod Indexes
-pub mod Keys
+mod Marks
+mod Indexes
+mod Keys
 pub mod Lists
-pub mod FoundTriples
+mod FoundTriples
