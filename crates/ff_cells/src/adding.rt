@@ -9,7 +9,7 @@ ghost use Rattle.ff_cells.specs.Tally.{capped, IsTally, Adds, IsCellOf};
 use crate::bars::Bar;
 use crate::border::Border;
 use crate::found::{Corners, Found};
-use crate::recent::{looked_up, remember};
+use crate::recent::{SLOTS, looked_up, remember};
 use crate::Cell;
 use ff_tables::{Items, NoMemory};
 use ff_types::{MOST_CELLS, MOST_ENTRIES};
@@ -21,7 +21,7 @@ use std::collections::BTreeMap;
 pub fn nothing(alloc: Global) -> Result<Found, NoMemory>
     ensures { IfOk result (IsTally []) }
 {
-    let recent = vec![in alloc; 0; 4096]?;
+    let recent = vec![in alloc; 0; SLOTS]?;
     Ok(Found {
         cells: Vec::new(alloc),
         places: BTreeMap::new(alloc),

@@ -5,7 +5,10 @@ ghost use Rattle.ff_cells.specs.Merged.{has_set, AreNumbered};
 use crate::Cell;
 use crate::found::Found;
 
-// A number made from the faces, below 2^12.
+/// How many places are remembered.
+pub const SLOTS: usize = 1 << 12;
+
+// A number made from the faces, below `SLOTS`.
 fn slot_of(faces: &[u32]) -> usize {
     let mut mixed: u32 = 0;
     for i in 0..faces.len() {
