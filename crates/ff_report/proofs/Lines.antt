@@ -1,5 +1,5 @@
 -- One line more.
-use Rattle.std.proofs.Common.{◌≡◌, ◌∙◌, ℕ, suc, ◌+◌, List, ◌++◌, refl, ap, append_assoc, arith}
+use Rattle.std.proofs.Common.{◌≡◌, ◌∙◌, ℕ, suc, ◌+◌, List, ◌++◌, ap, append_assoc, arith}
 use Rattle.ff_report.specs.Heads.{lines_of}
 
 pub lines_more : (line : ℕ → List ℕ) (n : ℕ) → lines_of line (n + 1) ≡ lines_of line n ++ line n
