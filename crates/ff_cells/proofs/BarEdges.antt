@@ -144,19 +144,6 @@ module _ (g : Sheet) (e : ℕ) (b : Bar) (ends : AreEnds g e b) where
       by (inr (l, h)) o = to_on g e s (on_back (head g e) (tail g e) s
           (subst (λ p. IsOn p (tail g e) s) l (subst (λ q. IsOn b.lo q s) h o)))
 
-  -- the edge's line is the bar's, in one direction or the other
-  line_either : ((s : Place) → height (line_of g e) s ≡ height b.line s)
-      ⊎ ((s : Place) → height (line_of g e) s ≡ neg_ℤ (height b.line s))
-  line_either = by ends
-    where
-      by : AreEnds g e b → ((s : Place) → height (line_of g e) s ≡ height b.line s)
-          ⊎ ((s : Place) → height (line_of g e) s ≡ neg_ℤ (height b.line s))
-      by (inl (l, h)) = inl (λ s. sym (ap (λ (k : Line). height k s)
-          (b.ok.through ∙ (ap (λ p. through p b.hi) l ∙ ap (λ q. through (tail g e) q) h))))
-      by (inr (l, h)) = inr (λ s. height-back (head g e) (tail g e) s
-          ∙ sym (ap (λ (k : Line). neg_ℤ (height k s)) (b.ok.through
-          ∙ (ap (λ p. through p b.hi) l ∙ ap (λ q. through (head g e) q) h))))
-
 -- ---- below and above
 
 -- the place of the line at the x of another

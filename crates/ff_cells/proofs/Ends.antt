@@ -186,12 +186,3 @@ IsStartSorted at v = IsSortedBy (λ (a : Bar) (b : Bar). starts_lower at a.line 
 
 pub starts_up : (at : Place) (v : List Bar) → IsStartSorted at v → StartsUp at v
 starts_up at v h k d b = starts_below at (get_or v k d).line (get_or v (k + 1) d).line (h k d (omega arith) b)
-
--- u is w as `next_border` is given it
-pub strip_step : (left limit right : Place) (v w u : List Bar) → pos 0 <ℤ left.w → pos 0 <ℤ right.w
-    → x_before left limit ≡ true → IsPermutation v w → IsStartSorted left w → u ≡ w
-    → ((l : Place) → pos 0 <ℤ l.w → StartsUp l u → pos 0 <ℤ run l limit → IsNext l limit u (length u) right)
-    → to_go right limit v < to_go left limit v
-strip_step left limit right v w u hl hr go same sorted e next =
-    next_is_less left limit right v u hl hr go (subst (IsPermutation v) (sym e) same)
-    (next left hl (subst (StartsUp left) (sym e) (starts_up left w sorted)) (run_of_before left limit go))

@@ -43,9 +43,6 @@ cmp_equal a b h = int_ranked a b Equal (sym h)
 swap_first : (a b c : ℤ) → a *ℤ (b *ℤ c) ≡ c *ℤ (b *ℤ a)
 swap_first a b c = solve (a ∷ b ∷ c ∷ []) (var 0 ⊗ (var 1 ⊗ var 2)) (var 2 ⊗ (var 1 ⊗ var 0)) refl
 
-swap_last : (a b c : ℤ) → a *ℤ (b *ℤ c) ≡ c *ℤ (b *ℤ a)
-swap_last = swap_first
-
 module _ {K : Type 0} (n d : K → ℤ) (above : (k : K) → pos 0 <ℤ d k) where
   abbrev pub frac_cmp : K → K → Ordering
   frac_cmp x y = int_cmp (n x *ℤ d y) (n y *ℤ d x)

@@ -45,22 +45,6 @@ gap-trans k l m p hk hl hm f g =
     let v = nonneg-mul k.b (gap l m p) (omega (arith, linear)) g in
     nonneg_from_mul l.b (gap k m p) hl (omega (arith, linear))
 
-pub gap-trans_first : (k l m : Line) (p : Place) → pos 0 <ℤ k.b → pos 0 <ℤ l.b → pos 0 <ℤ m.b
-    → pos 0 <ℤ gap k l p → pos 0 ≤ℤ gap l m p → pos 0 <ℤ gap k m p
-gap-trans_first k l m p hk hl hm f g =
-    let e = gap-sum k l m p in
-    let u = pos-mul m.b (gap k l p) hm f in
-    let v = nonneg-mul k.b (gap l m p) (omega (arith, linear)) g in
-    pos_from_mul l.b (gap k m p) hl (omega (arith, linear))
-
-pub gap-trans_last : (k l m : Line) (p : Place) → pos 0 <ℤ k.b → pos 0 <ℤ l.b → pos 0 <ℤ m.b
-    → pos 0 ≤ℤ gap k l p → pos 0 <ℤ gap l m p → pos 0 <ℤ gap k m p
-gap-trans_last k l m p hk hl hm f g =
-    let e = gap-sum k l m p in
-    let u = nonneg-mul m.b (gap k l p) (omega (arith, linear)) f in
-    let v = pos-mul k.b (gap l m p) hk g in
-    pos_from_mul l.b (gap k m p) hl (omega (arith, linear))
-
 -- a gap is linear in x
 pub gap-run : (k l : Line) (left right p : Place) → run left right *ℤ gap k l p ≡ run p right *ℤ gap k l left
     +ℤ run left p *ℤ gap k l right

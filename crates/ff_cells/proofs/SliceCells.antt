@@ -100,9 +100,6 @@ module _ {g : Sheet} {bars : List Bar} (d : IsDrawn g bars) {left right : Place}
   pub mid_within : slices.IsWithin d c mid
   mid_within = let t = cut_is in record { place = t.positive; after = t.after; before = t.before }
 
-  is_exact : exact.IsExact d.faces c.strip c.left_positive c.right_positive c.after c.starts c.next cell
-  is_exact = exact.sound d.faces c.strip c.left_positive c.right_positive c.after c.starts c.next m cell h
-
   inside_iff : (f : ℕ) → Contains cell.faces f ↔ IsInside (IsStep g) f mid
   inside_iff f = exact.sound_faces d.faces c.strip c.left_positive c.right_positive c.after c.starts c.next m
       cell h f

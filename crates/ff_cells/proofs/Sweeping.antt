@@ -78,9 +78,6 @@ slab_same bars other limit left right cs same s =
       emitted = s.emitted;
     }
 
-pub adds_nothing : (f : Found) → Adds f [] f
-adds_nothing f all t = subst (λ zs. IsTally zs f) (sym (append-nil all)) t
-
 pub adds_both : (a b c : Found) (xs ys : List Cell) → Adds a xs b → Adds b ys c → Adds a (xs ++ ys) c
 adds_both a b c xs ys f g all t = subst (λ zs. IsTally zs c) (append_assoc all xs ys)
     (g (all ++ xs) (f all t))
@@ -89,10 +86,6 @@ adds_both a b c xs ys f g all t = subst (λ zs. IsTally zs c) (append_assoc all 
 abbrev pub Swept : List Bar → Place → Place → Place → Found → Found → Type 0
 Swept bars from limit left start found = (n : ℕ) × (more : List Cell) × Adds start more found
     × IsSwept bars from limit n left more
-
-pub swept_none : (bars : List Bar) (from limit : Place) (found : Found)
-    → Swept bars from limit from found found
-swept_none bars from limit found = (0, [], adds_nothing found, (refl, refl))
 
 pub swept_one : (bars : List Bar) (from limit left right : Place) (start mid found : Found)
     → (more : List Cell) × Adds mid more found × IsSlabOf bars limit left right more

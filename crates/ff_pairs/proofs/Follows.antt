@@ -39,8 +39,6 @@ pub record AreDoneTo (w : ℕ) (old table : List Bool) (before faces : List ℕ)
   pub each : (k : ℕ) → k < i → Contains before (get_or faces k 0) ⊎ AreAllMarked w table (IsAside faces k)
 
 module _ (w : ℕ) (old : List Bool) (before faces : List ℕ) where
-  pub done_none : AreDoneTo w old old before faces 0
-  done_none = record { long = refl; kept = λ f h p q t. t; only = λ f h p q t. inl t; each = λ k l. absurd (omega (arith, l)) }
 
   -- a face that was in the list before
   pub done_there : (table : List Bool) (i : ℕ) → Contains before (get_or faces i 0) → AreDoneTo w old table before faces i → AreDoneTo w old table before faces (i + 1)

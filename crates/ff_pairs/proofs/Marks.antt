@@ -90,9 +90,6 @@ more_ahead faces i j f h lt within = (there, back) where
 
 -- ---- the pairs of the cells
 
-pub none_in_cells : (cells : List Cell) (f h : ℕ) → IsInCells cells 0 f h → ⊥
-none_in_cells cells f h (k, c, l, e, t) = omega (arith, l)
-
 same_cell : (c d : Cell) → Some c ≡ Some d → c ≡ d
 same_cell c d e = cc
 

@@ -223,38 +223,5 @@ passed vars cons value v l is has = record {
   ];
 }
 
--- no variable is labelled yet
-pub none_labelled : (vars : ℕ) (cons : List Constraint) (value : ℕ → Option Order) (l : Labels)
-    → vars < 2 ^ 32 → l.part_of.items ≡ replicate vars 0 → l.queue.items ≡ [] → vars ≤ vec_capacity l.queue
-    → l.firsts.items ≡ []
-    → vars ≤ vec_capacity l.firsts → IsBelow vars cons value 0 l
-none_labelled vars cons value l few labels queue room firsts firsts_room = record {
-  labelling = record {
-    few = few;
-    wide = ap length labels ∙ length-replicate vars 0;
-    room = room;
-    count = omega (arith, ap length queue);
-    queued = λ i m. absurd (omega (arith, m, ap length queue));
-    undecided = λ v some. absurd (omega (arith, some, zero_at v));
-    reached = λ v p e. absurd (omega (arith, e, zero_at v));
-  };
-  room = firsts_room;
-  alike = λ c con at i j li lj oi oj. zero_at (term_at con.terms i).var
-      ∙ sym (zero_at (term_at con.terms j).var);
-  first = λ p m. absurd (omega (arith, m, ap length firsts));
-  least = λ u p e. absurd (omega (arith, e, zero_at u));
-  rising = λ p q a m. absurd (omega (arith, m, ap length firsts));
-  below = λ p m. absurd (omega (arith, m, ap length firsts));
-  done = λ u m o. absurd (omega (arith, m));
-}
-  where
-    zeros : (n v : ℕ) → slice_index (replicate n 0) v ≡ 0
-    zeros zero v = refl
-    zeros (suc n) zero = refl
-    zeros (suc n) (suc v) = zeros n v
-
-    zero_at : (v : ℕ) → label l v ≡ 0
-    zero_at v = ap (λ xs. get_or xs v 0) labels ∙ zeros vars v
-
 pub firsts_longer : (n v : ℕ) (old new : List ℕ) → new ≡ old ++ v ∷ [] → n ≡ length new → n ≡ length old + 1
 firsts_longer n v old new e is = is ∙ ap length e ∙ length-append old (v ∷ [])

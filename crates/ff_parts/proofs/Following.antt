@@ -106,18 +106,6 @@ pub record IsVisiting (vars : ℕ) (cons : List Constraint) (value : ℕ → Opt
   pub own : label now v ≡ p
   pub almost : Almost cons value v now (head + 1) list k
 
-pub visit_begins : (vars : ℕ) (cons : List Constraint) (value : ℕ → Option Order) (p head v : ℕ) (list : List ℕ)
-    (l : Labels) → IsSpreading vars cons value p l → slice_index l.queue.items head ≡ v
-    → label l (slice_index l.queue.items head) ≡ p
-    → Ready cons value l head → ((d : ℕ) → IsUse cons d v → IsIn list d)
-    → IsVisiting vars cons value p head v list 0 l l
-visit_begins vars cons value p head v list l s here own ready each = record {
-  spreading = s;
-  spreads = spreads_refl p l;
-  own = ap (label l) (sym here) ∙ own;
-  almost = begins cons value l head v list here ready each;
-}
-
 -- the k-th constraint of the list is examined
 pub visit_on : (vars : ℕ) (cons : List Constraint) (value : ℕ → Option Order) (p head v : ℕ) (list : List ℕ) (k : ℕ)
     (old now new : Labels) (con : Constraint) → IsVisiting vars cons value p head v list k old now
@@ -136,11 +124,6 @@ visit_on vars cons value p head v list k old now new con vis h at s x labelled =
       (labelled (subst (λ q. HasVar q v) (same_con there at) has)) (s.mixed (slice_index list k) con at))));
 }
 
-pub visit_ends : (vars : ℕ) (cons : List Constraint) (value : ℕ → Option Order) (p head v : ℕ) (list : List ℕ) (k : ℕ)
-    (old now : Labels) → IsVisiting vars cons value p head v list k old now → length list ≤ k
-    → Ready cons value now (head + 1)
-visit_ends vars cons value p head v list k old now vis z = ends cons value now (head + 1) v k list z vis.almost
-
 -- what holds while the queue is gone through
 pub record IsFollowing (vars : ℕ) (cons : List Constraint) (value : ℕ → Option Order) (p at : ℕ)
     (old now : Labels) : Type 0 where
@@ -149,26 +132,3 @@ pub record IsFollowing (vars : ℕ) (cons : List Constraint) (value : ℕ → Op
   pub inside : at ≤ length now.queue.items
   pub own : AreOf p now at
   pub ready : Ready cons value now at
-
-pub follow_on : (vars : ℕ) (cons : List Constraint) (value : ℕ → Option Order) (p at : ℕ)
-    (old now new : Labels) → IsFollowing vars cons value p at old now → at < length now.queue.items
-    → IsSpreading vars cons value p new → Spreads p now new
-    → Ready cons value new (at + 1) → IsFollowing vars cons value p (at + 1) old new
-follow_on vars cons value p at old now new f l s x ready = record {
-  spreading = s;
-  spreads = spreads_trans p old now new s.some f.spreads x;
-  inside = omega (arith, l, x.count);
-  own = λ i a b. elim (lt_or i (length now.queue.items)) [
-    | inl m ↦ (let e = f.own i (omega (arith, a)) m in ap (label new) (x.front i m) ∙ x.kept (slice_index now.queue.items i) (omega (arith, e, s.some)) ∙ e)
-    | inr m ↦ x.added i m b
-  ];
-  ready = ready;
-}
-  where
-    lt_or : (i n : ℕ) → (i < n) ⊎ (n ≤ i)
-    lt_or i zero = inr (omega arith)
-    lt_or i (suc n) = elim (lt_or i n) [
-      | inl l ↦ inl (omega (arith, l))
-      | inr l ↦ elim (cases_eq i n)
-          [ inl e ↦ inl (omega (arith, e)) | inr ne ↦ inr (omega (arith, l, ne)) ]
-    ]

@@ -39,38 +39,6 @@ member_isnt : (labels : List ℕ) (n k : ℕ) → (slice_index labels n ≡ k �
 member_isnt labels n k ne = ap (λ b. if b then members labels n k ++ n ∷ [] else members labels n k)
     (ne_eqb (slice_index labels n) k ne)
 
--- one number more
-pub gathers_on : (labels : List ℕ) (n many : ℕ) (old new : List (List ℕ)) (label : ℕ)
-    → Gathers labels n many old → slice_index labels n ≡ label → label ≤ many → new ≡ putting label n old
-    → Gathers labels (n + 1) many new
-gathers_on labels n many old new zero g e l is = subst (λ k. Gathers labels k many new) (sym (add-one n))
-    (record {
-      as_many = ap length is ∙ g.as_many;
-      each = λ p m. ap (λ ls. get_or ls p []) is ∙ g.each p m
-          ∙ sym (member_isnt labels n (suc p) (λ q. omega (arith, q, e)));
-    })
-gathers_on labels n many old new (suc q) g e l is = subst (λ k. Gathers labels k many new) (sym (add-one n))
-    (record {
-      as_many = ap length is ∙ length-set old q (get_or old q [] ++ n ∷ []) ∙ g.as_many;
-      each = λ p m. elim (cases_eq p q) [
-        | inl same ↦ ap (λ ls. get_or ls p []) is
-            ∙ ap (λ k. get_or (set old q (get_or old q [] ++ n ∷ [])) k []) same
-            ∙ get_or-set_same old q (get_or old q [] ++ n ∷ []) [] (omega (arith, l, g.as_many))
-            ∙ ap (λ xs. xs ++ n ∷ []) (ap (λ k. get_or old k []) (sym same) ∙ g.each p m)
-            ∙ sym (member_is labels n (suc p) (e ∙ ap suc (sym same)))
-        | inr ne ↦ ap (λ ls. get_or ls p []) is ∙ get_or-set_other old q p (get_or old q [] ++ n ∷ []) [] ne
-            ∙ g.each p m ∙ sym (member_isnt labels n (suc p) (λ r. ne (suc_same (sym r ∙ e))))
-      ];
-    })
-  where
-    suc_same : {a b : ℕ} → suc a ≡ suc b → a ≡ b
-    suc_same r = omega (arith, r)
-
-pub gathers_none : (labels : List ℕ) (many : ℕ) (lists : List (List ℕ)) → lists ≡ replicate many []
-    → Gathers labels 0 many lists
-gathers_none labels many lists
-    is = record { as_many = ap length is ∙ length-replicate many []; each = λ p l. ap (λ ls. get_or ls p []) is ∙ get_or-replicate many p [] [] l }
-
 pub empty_on : (lists new : List (Vec ℕ Global)) (k : ℕ) (v : Vec ℕ Global) → lists_in lists ≡ replicate k []
     → v.items ≡ [] → new ≡ lists ++ v ∷ [] → lists_in new ≡ replicate (k + 1) []
 empty_on lists new k v is none e = ap lists_in e ∙ map_push (λ (w : Vec ℕ Global). w.items) lists v

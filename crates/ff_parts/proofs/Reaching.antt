@@ -276,11 +276,6 @@ examined_on vars cons fit value p c con at j lj old mid new e r =
       labelled = step.labelled;
     }
 
-pub examined_from : (vars : ℕ) (cons : List Constraint) (value : ℕ → Option Order) (p : ℕ) (con : Constraint)
-    (l : Labels) → IsSpreading vars cons value p l → HasOwn p l con → IsExamining vars cons value p con 0 l l
-examined_from vars cons value p con l s
-    own = record { spreading = s; spreads = spreads_refl p l; own = own; labelled = λ j m o. absurd (omega (arith, m)) }
-
 pub queue_long : (vars : ℕ) (cons : List Constraint) (value : ℕ → Option Order) (l : Labels)
     → IsLabelling vars cons value l → length l.queue.items ≤ vars
 queue_long vars cons value l is = let r = count_le l.part_of.items in omega (arith, r, is.count, is.wide)

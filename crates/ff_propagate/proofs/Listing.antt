@@ -121,29 +121,3 @@ put_all cons con terms c j lists at same long a = record {
         let is : d.terms ≡ terms = ap (λ (z : Constraint). z.terms) (same_con cons c d con there at) ∙ sym same in
         subst (λ n. IsIn (list_at lists n) c) (ap (λ ts. (term_at ts i).var) (sym is) ∙ var)
         (a.here i (omega (arith, ap length is, l, long)))
-
--- no constraint is put
-pub put_nothing : (cons : List Constraint) (w : ℕ) (lists : List (List ℕ)) → lists ≡ replicate w [] → AreListed cons 0 lists
-put_nothing cons w lists e = record {
-  below = λ v k l. absurd (no v k l);
-  each = λ d v l. absurd (omega (arith, l));
-}
-  where
-    long : length lists ≡ w
-    long = ap length e ∙ length-replicate w []
-
-    empty : (v : ℕ) → length (list_at lists v) ≡ 0
-    empty v = elim (lt_or v w) [
-      | inl l ↦ ap length (ap (λ ls. list_at ls v) e ∙ get_or-replicate w v [] [] l)
-      | inr l ↦ ap length (get_or_past lists v [] (omega (arith, l, long)))
-    ]
-      where
-        lt_or : (i n : ℕ) → (i < n) ⊎ (n ≤ i)
-        lt_or i zero = inr (omega arith)
-        lt_or i (suc n) = elim (lt_or i n) [
-          | inl l ↦ inl (omega (arith, l))
-          | inr l ↦ elim (cases_eq i n) [ inl e ↦ inl (omega (arith, e)) | inr ne ↦ inr (omega (arith, l, ne)) ]
-        ]
-
-    no : (v k : ℕ) → k < length (list_at lists v) → ⊥
-    no v k l = omega (arith, l, empty v)

@@ -59,15 +59,6 @@ few_rising list up n below = by (length list) refl
         let b = below m l in
         omega (arith, a, b, e)
 
-pub longer_itself : (list : List ℕ) → IsLonger list list
-longer_itself list = record { long = omega arith; front = λ u l. refl }
-
-pub longer_trans : (a b c : List ℕ) → IsLonger a b → IsLonger b c → IsLonger a c
-longer_trans a b c x y = record {
-  long = omega (arith, x.long, y.long);
-  front = λ u l. y.front u (omega (arith, l, x.long)) ∙ x.front u l;
-}
-
 longer_term : (part old new : List ℕ) (t u : Term) → IsLonger old new → IsCopiedTerm part old t u → IsCopiedTerm part new t u
 longer_term part old new t u more is = record {
   flipped = is.flipped;
@@ -91,17 +82,6 @@ term_in : (ts : List Term) (t : Term) (j : ℕ) → j < length ts → term_at (t
 term_in [] t j l = absurd (omega (arith, l))
 term_in (u ∷ ts) t zero l = refl
 term_in (u ∷ ts) t (suc j) l = term_in ts t j (omega (arith, l))
-
-pub terms_more : (part old new : List ℕ) (from own : List Term) (t : Term) (n : ℕ) → length own ≡ n → IsLonger old new
-    → AreTerms part old from own n → IsCopiedTerm part new (term_at from n) t → AreTerms part new from (own ++ t ∷ []) (n + 1)
-terms_more part old new from own t n long more before now j l = elim (cases_eq j n) [
-  | inl e ↦ subst (λ u. IsCopiedTerm part new (term_at from j) u)
-      (sym (get_or_push own t (record { var = 0; flipped = false }) j (long ∙ sym e)))
-      (subst (λ k. IsCopiedTerm part new (term_at from k) t) (sym e) now)
-  | inr ne ↦ (let m : j < n = omega (arith, l, ne) in
-      longer_term part old new (term_at from j) (term_at (own ++ t ∷ []) j) more
-      (subst (λ u. IsCopiedTerm part old (term_at from j) u) (sym (term_in own t j (omega (arith, m, long)))) (before j m)))
-]
 
 con_in : (cons : List Constraint) (con : Constraint) (k : ℕ) → k < length cons → slice_get (cons ++ con ∷ []) k ≡ slice_get cons k
 con_in [] con k l = absurd (omega (arith, l))

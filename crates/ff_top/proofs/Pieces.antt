@@ -9,26 +9,6 @@ use Rattle.ff_top.specs.Transfer.{Tells, IsReadOff, Got, GotFront, GotPart}
 pub record HasRead (before now : Option (List ℕ)) (bytes : List ℕ) : Type 0 where
   pub so_far : IfSome before (λ input. (rest : List ℕ) × (now ≡ Some rest) × (input ≡ bytes ++ rest))
 
-pub has_read_nothing : (before : Option (List ℕ)) → HasRead before before []
-has_read_nothing None = record { so_far = tt }
-has_read_nothing (Some input) = record { so_far = (input, refl, refl) }
-
-pub has_read_more : (before now new : Option (List ℕ)) (bytes buf : List ℕ) (n : ℕ) → HasRead before now bytes
-    → IfSome now (λ old. Gives old new buf n) → HasRead before new (bytes ++ take n buf)
-has_read_more None now new bytes buf n h g = record { so_far = tt }
-has_read_more (Some input) now new bytes buf n h g =
-    let rest = h.so_far.0 in
-    let given : Gives rest new buf n = subst (λ (o : Option (List ℕ)). IfSome o (λ old. Gives old new buf n)) h.so_far.1 g in
-    record { so_far = (drop n rest, given.rest, h.so_far.2 ∙ ap (λ xs. bytes ++ xs) (sym (take-append-drop n rest)) ∙ sym (append_assoc bytes (take n rest) (drop n rest)) ∙ ap (λ xs. (bytes ++ xs) ++ drop n rest) (sym given.front)) }
-
--- at the end of the input all of it has been read
-pub has_read_all : (before now new : Option (List ℕ)) (bytes buf : List ℕ) (n : ℕ) → HasRead before now bytes
-    → IfSome now (λ old. Gives old new buf n) → n ≡ 0 → Tells before bytes
-has_read_all None now new bytes buf n h g e = tt
-has_read_all (Some input) now new bytes buf n h g e =
-    let given : Gives h.so_far.0 new buf n = subst (λ (o : Option (List ℕ)). IfSome o (λ old. Gives old new buf n)) h.so_far.1 g in
-    h.so_far.2 ∙ ap (λ xs. bytes ++ xs) (given.end e) ∙ append-nil bytes
-
 -- some input begins with what has been read
 pub has_read_front : (before now : Option (List ℕ)) (bytes : List ℕ) → HasRead before now bytes → (input : List ℕ) × (rest : List ℕ) × Tells before input × (input ≡ bytes ++ rest)
 has_read_front None now bytes h = (bytes, [], tt, sym (append-nil bytes))
@@ -59,10 +39,6 @@ got_more None now new bytes i n h g = tt
 got_more (Some held) now new bytes i n h g =
     let more : new ≡ Some ((held ++ take i bytes) ++ take n (drop i bytes)) = subst (λ (o : Option (List ℕ)). IfSome o (λ held. new ≡ Some (held ++ take n (drop i bytes)))) h g in
     more ∙ ap Some (append_assoc held (take i bytes) (take n (drop i bytes)) ∙ ap (λ xs. held ++ xs) (sym (take-add i n bytes)))
-
-pub got_kept : (before now new : Option (List ℕ)) (bytes : List ℕ) → Got before bytes now → IfSome now (λ held. new ≡ Some held) → Got before bytes new
-got_kept None now new bytes h g = tt
-got_kept (Some held) now new bytes h g = subst (λ (o : Option (List ℕ)). IfSome o (λ held. new ≡ Some held)) h g
 
 -- all of it, or a part of it, is a front of it
 pub got_front : (before after : Option (List ℕ)) (bytes : List ℕ) → Got before bytes after → GotFront before bytes after

@@ -31,18 +31,9 @@ has_vertices bytes p read =
     let same = as_many point_of read.spells.keys.vertices p.points read.spells.spelled.points in
     omega (arith, three, same)
 
-pub pattern_read : (bytes : List ℕ) (r : Result Pattern No) → MatchResult r (IsReadAs bytes) (IsNoPattern bytes) → IfOk r (IsReadAs bytes)
-pattern_read bytes (Ok p) h = h
-pattern_read bytes (Err n) h = tt
-
 pub pattern_some : (bytes : List ℕ) (r : Result Pattern No) → MatchResult r (IsReadAs bytes) (IsNoPattern bytes) → IfOk r (λ p. 1 ≤ length p.points)
 pattern_some bytes (Ok p) h = has_vertices bytes p h
 pattern_some bytes (Err n) h = tt
-
-pub pattern_refused : (bytes : List ℕ) → length bytes ≤ MOST_BYTES → (r : Result Pattern No) → MatchResult r (IsReadAs bytes) (IsNoPattern bytes) → IfErr r (IsReason bytes)
-pattern_refused bytes few (Ok p) h = tt
-pattern_refused bytes few (Err (no.Refused r)) h = inr (few, inl h)
-pattern_refused bytes few (Err no.NoMemory) h = tt
 
 pub problem_refused : (bytes : List ℕ) (p : Pattern) → length bytes ≤ MOST_BYTES → IsReadAs bytes p → (n : No) → WhyNoProblem p n → IsReason bytes n
 problem_refused bytes p few read (no.Refused r) h = inr (few, inr (record { pattern = p; read = read; refused = h }))
