@@ -46,6 +46,11 @@ module _ (cells : List Cell) (pairs : List (ℕ × ℕ)) where
   weaker : (n k n' k' : ℕ) (l : Listed) → ((m d : ℕ) → IsPrior m d n k → IsPrior m d n' k') → IsListedBefore cells pairs n k l → IsListedBefore cells pairs n' k' l
   weaker n k n' k' l on b = record { f = b.f; h = b.h; third = b.third; number = b.number; pair = b.pair; above = b.above; prior = on b.number b.third b.prior; place = b.place; has = b.has; first = b.first; cite = b.cite; constraint = b.constraint }
 
+  pub list_none : Listed_to 0 0 []
+  list_none = record {
+    only = λ m l e. absurd (omega (arith, slice_get_within [] m l e));
+    sorted = λ m n l o b e. absurd (omega (arith, slice_get_within [] m l e));
+    all = λ m f h third i p a three prior. absurd (none m third prior);
   } where
     none : (m d : ℕ) → IsPrior m d 0 0 → ⊥
     none m d (inl l) = omega (arith, l)

@@ -26,6 +26,25 @@ member_at xs f j l e = (j, l, get_or_default xs j f 0 l ∙ e)
 
 -- ---- the faces of one cell
 
+pub marked_none : (faces : List ℕ) (from cell : ℕ) (row : List (Option ℕ)) → IsMarked faces from from cell row row
+marked_none faces from cell row = record { long = refl; kept = λ k x e. e; marked = λ j m l. absurd (omega (arith, m, l)); only = λ k e. inl e }
+
+pub marked_more : (faces : List ℕ) (from j cell x : ℕ) (old mid new : List (Option ℕ)) → from ≤ j → x ≡ slice_index faces j → IsMarked faces from j cell old mid → IsMarked (x ∷ []) 0 1 cell mid new
+    → IsMarked faces from (j + 1) cell old new
+marked_more faces from j cell x old mid new le e a b = record {
+  long = b.long ∙ a.long;
+  kept = λ k y s. b.kept k y (a.kept k y s);
+  marked = λ i g l n. elim (below_or i j l) [
+    | inl m ↦ b.kept (slice_index faces i) cell (a.marked i g m n)
+    | inr m ↦ at_last i m n
+  ];
+  only = λ k n. elim (a.only k n) [
+    | inr s ↦ inr (b.kept k cell s.0, (s.1.0, s.1.1, (let l = s.1.2 in omega (arith, l)), s.1.3))
+    | inl s ↦ elim (b.only k s) [
+      | inl t ↦ inl t
+      | inr t ↦ inr (t.0, (j, le, omega arith, sym e ∙ first t.1.0 k t.1.2 t.1.3))
+    ]
+  ];
 } where
   first : (i k : ℕ) → i < 1 → slice_index (x ∷ []) i ≡ k → x ≡ k
   first zero k l d = d
@@ -48,11 +67,17 @@ marked_below faces from n cell past old new below m k le = by (row_at old k) ref
     | inr s ↦ (let b = below s.1.0 s.1.2 in let i = s.1.3 in absurd (omega (arith, b, i, le)))
   ]
 
+pub same_later : (a b : ℕ) (old mid new : List (Option ℕ)) → AreSameFrom a old mid → AreSameFrom b mid new → (c : ℕ) → a ≤ c → b ≤ c → AreSameFrom c old new
+same_later a b old mid new f g c l m k le = g k (omega (arith, m, le)) ∙ f k (omega (arith, l, le))
+
 pub reach_more : (old new : List (Option ℕ)) (reach past next : ℕ) → length new ≡ length old → IsReach old reach → past ≤ length old → AreSameFrom past old new → reach ≤ next → past ≤ next → next ≤ length old
     → IsReach new next
 reach_more old new reach past next long r few same a b c = record { within = omega (arith, long, c); none = λ k l. same k (omega (arith, b, l)) ∙ r.none k (omega (arith, a, l)) }
 
 -- ---- cell by cell
+
+pub row_clear : (cells : List Cell) (list : List ℕ) (f h : ℕ) (row : List (Option ℕ)) → IsClear row → IsRowTo cells list 0 f h (length row) row
+row_clear cells list f h row clear = record { long = refl; each = λ k a l. subst (IsFirstOf cells list 0 f h k) (sym (clear k)) (λ x m. absurd (omega (arith, m))); low = λ k l. clear k }
 
 module _ (cells : List Cell) (list : List ℕ) (f h w : ℕ) (of : HoldBoth cells f h list) where
   next_some : (n k y : ℕ) → n < length list → IsFirstOf cells list n f h k (Some y) → IsFirstOf cells list (n + 1) f h k (Some y)

@@ -1,4 +1,4 @@
-use Rattle.std.proofs.Common.{◌≡◌, List, Some, subst, sym, ap, ◌∙◌, slice_get, get_or}
+use Rattle.std.proofs.Common.{◌≡◌, List, Some, subst, sym, ap, ◌∙◌, slice_get}
 use Rattle.std.proofs.lemmas.Option.{slice_get-get_or}
 use Rattle.ff_propagate.specs.declared.parts.Part.{Part}
 use Rattle.ff_trials.proofs.systems.board_text.Goals as goal
