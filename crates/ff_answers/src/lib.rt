@@ -3,9 +3,9 @@
 #![tactic(auto)]
 
 mod ends;
-mod layers;
 mod laws;
+mod layers;
 
 pub use ends::each_system_ends;
-pub use layers::{some_cells, some_constraints, some_pairs};
 pub use laws::{cases_have_reports, folded_patterns_come};
+pub use layers::{some_cells, some_constraints, some_pairs};

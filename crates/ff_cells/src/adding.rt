@@ -6,11 +6,11 @@ ghost use Rattle.ff_cells.specs.Merged.{has_set, AreNumbered};
 ghost use Rattle.ff_cells.specs.Sheet.{IsCorners};
 ghost use Rattle.ff_cells.specs.Tally.{capped, IsTally, Adds, IsCellOf};
 
+use crate::Cell;
 use crate::bars::Bar;
 use crate::border::Border;
 use crate::found::{Corners, Found};
 use crate::recent::{SLOTS, looked_up, remember};
-use crate::Cell;
 use ff_tables::{Items, NoMemory};
 use ff_types::{MOST_CELLS, MOST_ENTRIES};
 use ff_whole::corner;

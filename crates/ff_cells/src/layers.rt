@@ -13,12 +13,12 @@ ghost use Rattle.ff_cells.specs.Steps.{AreBars};
 ghost use Rattle.ff_cells.specs.Tally.{entries_of};
 ghost use Rattle.ff_cells.specs.Xs.{AreXs, AreFound};
 
+use crate::Cell;
 use crate::bars::Bar;
 use crate::found::Found;
 use crate::reaching::sort_from_left;
 use crate::steps::bars_of;
 use crate::sweep::{strips, too_many};
-use crate::Cell;
 use ff_tables::{Items, NoMemory};
 use ff_types::{Faces, Folded, MOST_ENTRIES, No, What};
 use ff_whole::Pt;

@@ -39,7 +39,6 @@ pub record AreDoneTo (w : ℕ) (old table : List Bool) (before faces : List ℕ)
   pub each : (k : ℕ) → k < i → Contains before (get_or faces k 0) ⊎ AreAllMarked w table (IsAside faces k)
 
 module _ (w : ℕ) (old : List Bool) (before faces : List ℕ) where
-
   -- a face that was in the list before
   pub done_there : (table : List Bool) (i : ℕ) → Contains before (get_or faces i 0) → AreDoneTo w old table before faces i → AreDoneTo w old table before faces (i + 1)
   done_there table i c d = record {

@@ -1,11 +1,10 @@
 -- A part is begun and followed.
-use Rattle.std.proofs.Common.{◌≡◌, ℕ, zero, suc, ◌+◌, ◌<◌, ◌≤◌, inl, inr, List, [], ◌∷◌, ◌++◌, length, get_or, set, slice_index, slice_get, replicate, refl, sym, ap, ◌∙◌, subst, arith, add-one, ◌^◌, Option, Some, None}
+use Rattle.std.proofs.Common.{◌≡◌, ℕ, zero, suc, ◌+◌, ◌<◌, ◌≤◌, inl, inr, List, [], ◌∷◌, ◌++◌, length, get_or, set, slice_index, slice_get, refl, sym, ap, ◌∙◌, subst, arith, add-one, Option, Some, None}
 use Rattle.std.specs.Vec.{vec_capacity}
 use Rattle.std.proofs.lemmas.Bool.{cases_eq, cases_order}
-use Rattle.std.proofs.lemmas.List.{length-append, length-set, get_or_append_left, get_or_push, length-replicate}
+use Rattle.std.proofs.lemmas.List.{length-append, length-set, get_or_append_left, get_or_push}
 use Rattle.ff_tables.specs.declared.orders.Order.{Order}
 use Rattle.ff_tables.specs.declared.terms.Constraint.{Constraint}
-use Rattle.ff_tables.specs.Orders.{term_at}
 use Rattle.ff_propagate.specs.Parts.{IsUndecided, AreConnected}
 use Rattle.ff_parts.specs.declared.labels.Labels.{Labels}
 use Rattle.ff_parts.specs.Labels.{label, count_set, AreAlike, Rests, Ready, AreOf, Spreads, IsSpreading, IsLabelled, IsBelow}

@@ -8,7 +8,7 @@ use Rattle.ff_tables.specs.Orders.{term_at}
 use Rattle.ff_propagate.specs.Uses.{IsUse, IsFrom, IsIn}
 use Rattle.ff_parts.specs.declared.labels.Labels.{Labels}
 use Rattle.ff_parts.specs.Labels.{label, AreAlike, IsOwn, AreMixed, Rests, Ready, AreOf, Spreads, IsSpreading, AllLabelled, HasVar}
-use Rattle.ff_parts.proofs.Reaching.{spreads_refl, spreads_trans}
+use Rattle.ff_parts.proofs.Reaching.{spreads_trans}
 
 -- some place below n has Q, or each has P
 scan : (P Q : ℕ → Type 0) (n : ℕ) → ((j : ℕ) → P j ⊎ Q j)

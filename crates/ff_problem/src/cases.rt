@@ -12,12 +12,11 @@ ghost use Rattle.ff_problem.specs.Layers.{AreFewCells, AreFewPairs, AreLayers, A
 use crate::starts::starts_of;
 use ff_cells::{Cell, cells};
 use ff_edges::{EdgeFace, EdgePair, edge_faces, edge_pairs};
-use ff_types::Listing;
 use ff_pairs::pairs;
 use ff_tables::{Given, Items, System};
 use ff_tacos::tacos;
 use ff_trans::triples;
-use ff_types::{Case, Faces, Folded, No, Pairs, Pattern};
+use ff_types::{Case, Faces, Folded, Listing, No, Pairs, Pattern};
 use std::alloc::Global;
 
 // The cells, within the limits.

@@ -4,9 +4,8 @@ ghost use Rattle.std.specs.List.{cons_option};
 ghost use Rattle.ff_types.specs.declared.limits.TheConstants.{MOST_CONSTRAINTS as most_constraints};
 ghost use Rattle.ff_tacos.specs.Making.{IsOver};
 
-use ff_types::Listing;
 use ff_tables::NoMemory;
-use ff_types::{Listed, No};
+use ff_types::{Listed, Listing, No};
 
 /// Appends the constraint, if there is one.
 pub fn append(list: &mut Listing, listed: Option<Listed>) -> Result<(), No>

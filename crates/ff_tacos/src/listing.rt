@@ -13,9 +13,8 @@ use crate::passes::{
     append_flat_edges, append_flat_faces, append_taco_edges, append_taco_faces, append_taco_tacos,
 };
 use ff_edges::{EdgeFace, EdgePair};
-use ff_types::Listing;
 use ff_tables::Items;
-use ff_types::{Faces, Folded, No, Pairs, Pattern};
+use ff_types::{Faces, Folded, Listing, No, Pairs, Pattern};
 use std::alloc::Global;
 
 // Appends family after family.

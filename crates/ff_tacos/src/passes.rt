@@ -8,8 +8,7 @@ ghost use Rattle.ff_tacos.specs.Making.{given, IsOver, HavePairEdges, HaveEdges,
 use crate::append::append;
 use crate::constraints::{flat_edge, flat_face, taco_edge, taco_face, taco_taco};
 use ff_edges::{EdgeFace, EdgePair};
-use ff_types::Listing;
-use ff_types::{Faces, Folded, No, Pairs, Pattern};
+use ff_types::{Faces, Folded, Listing, No, Pairs, Pattern};
 
 /// Appends the constraints of two folded edges.
 pub fn append_taco_tacos(

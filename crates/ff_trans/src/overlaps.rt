@@ -16,9 +16,8 @@ use crate::marking::mark_row;
 use crate::taking::take;
 use crate::width::width;
 use ff_cells::Cell;
-use ff_types::Listing;
 use ff_tables::{Items, NoMemory};
-use ff_types::{No, Pairs};
+use ff_types::{Listing, No, Pairs};
 use std::alloc::Global;
 
 // Takes the triple of the pair with the number `n` and the face `k`, if they share a cell.

@@ -28,9 +28,19 @@ const FAR: i64 = (1 << 23) - 1;
 
 fn through_far(p: (i64, i64), q: (i64, i64)) -> Line {
     let near = |n: i64| n.clamp(-FAR, FAR);
-    let p = Pt { x: near(p.0), y: near(p.1) };
-    let q = Pt { x: near(q.0), y: near(q.1) };
-    if p == q { Line { a: 0, b: 1, c: 0 } } else { through(p, q) }
+    let p = Pt {
+        x: near(p.0),
+        y: near(p.1),
+    };
+    let q = Pt {
+        x: near(q.0),
+        y: near(q.1),
+    };
+    if p == q {
+        Line { a: 0, b: 1, c: 0 }
+    } else {
+        through(p, q)
+    }
 }
 
 // The place was computed by Cramer's rule with unbounded numbers.
@@ -39,8 +49,16 @@ fn places_at_the_limit(rt: HostRuntime) -> Result<(), Fail> {
     let k = through_far((FAR - 1, 1 - FAR), (-FAR, -FAR));
     let l = through_far((1 - FAR, FAR - 1), (FAR - 1, FAR - 2));
     let n = through_far((FAR, FAR - 1), (-FAR, -FAR));
-    let m = Place { x: 4722363386645564096466, y: -25165818, w: 33554425 };
-    let c = Place { x: 79228101123517370997126725724, y: 79228096401153702876678193283, w: 562949768871950 };
+    let m = Place {
+        x: 4722363386645564096466,
+        y: -25165818,
+        w: 33554425,
+    };
+    let c = Place {
+        x: 79228101123517370997126725724,
+        y: 79228096401153702876678193283,
+        w: 562949768871950,
+    };
     assert_eq!(rt; (k.a, k.b, k.c), (1, -16777213, 140737438023684));
     assert_eq!(rt; meet(k, l), Some(m));
     assert_eq!(rt; corner(n, m), c);

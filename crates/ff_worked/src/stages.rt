@@ -118,8 +118,17 @@ fn write_cites(text: &mut String, cites: &[Cite]) -> Result<(), AllocError> {
 fn write_counts(text: &mut String, case: &Case) -> Result<(), AllocError> {
     let cites = case.cites.as_slice();
     let counts = counts_of(cites);
-    write!(text, "pairs {} constraints {}", case.pairs.count(), case.system.constraints.as_slice().len())?;
-    write!(text, " families {} {} {} {}\n", counts[0], counts[1], counts[2], counts[3])
+    write!(
+        text,
+        "pairs {} constraints {}",
+        case.pairs.count(),
+        case.system.constraints.as_slice().len()
+    )?;
+    write!(
+        text,
+        " families {} {} {} {}\n",
+        counts[0], counts[1], counts[2], counts[3]
+    )
 }
 
 // Why there is nothing.
