@@ -1,5 +1,4 @@
 -- That no pattern that folds is without an answer. This project's own.
--- For the proofs of this crate alone.
 use Rattle.std.specs.Prelude.{ℕ, List}
 use Rattle.ff_types.specs.declared.patterns.Pattern.{Pattern}
 use Rattle.ff_types.specs.declared.faces.Faces.{Faces}

@@ -1,5 +1,4 @@
 -- That each system with givens comes to a clash, or to a closure with parts and their decision trees. This project's own.
--- For the proofs of this crate alone.
 use Rattle.std.specs.Prelude.{◌≡◌, ℕ, ◌<◌, List, length, slice_get, Option, Some}
 use Rattle.ff_tables.specs.declared.systems.System.{System}
 use Rattle.ff_tables.specs.declared.givens.Given.{Given}

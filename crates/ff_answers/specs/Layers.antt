@@ -1,5 +1,4 @@
 -- That a folded sheet has the layers that its case is made of. This project's own.
--- For the proofs of this crate alone.
 use Rattle.std.specs.Prelude.{◌≡◌, ℕ, ◌<◌, ◌↔◌, List, slice_get, Some, IsTrue}
 use Rattle.ff_whole.specs.declared.places.Place.{Place}
 use Rattle.ff_tables.specs.declared.terms.Constraint.{Constraint}

@@ -1,5 +1,4 @@
 -- A sheet whose only edge inside is flat: nothing lies on anything. This project's own.
--- For the proofs of this crate alone.
 use Rattle.std.specs.Prelude.{◌≡◌, ◌≢◌, ℕ, ◌<◌, Bool, false, length, IsTrue}
 use Rattle.ff_whole.specs.declared.places.Place.{Place}
 use Rattle.ff_types.specs.declared.patterns.Mark.TheVariants.{B}

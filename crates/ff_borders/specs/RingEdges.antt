@@ -1,6 +1,5 @@
 -- How a face meets a plain border place: inside, or on exactly one of its ring edges, or not at all.
 -- This project's own.
--- For the proofs of this crate alone.
 use Rattle.std.specs.Prelude.{◌≡◌, ℕ, ◌<◌, ◌⊎◌, false, length, IsTrue}
 use Rattle.ff_whole.specs.declared.places.Place.{Place}
 use Rattle.ff_whole.specs.Places.{IsPlace}

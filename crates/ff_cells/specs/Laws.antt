@@ -1,5 +1,4 @@
 -- That slab cells are counted one way only.
--- For the proofs of this crate alone.
 use Rattle.std.specs.Prelude.{◌≤◌, List, length}
 use Rattle.ff_whole.specs.declared.places.Place.{Place}
 use Rattle.ff_types.specs.declared.patterns.Pattern.{Pattern}

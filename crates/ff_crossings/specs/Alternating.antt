@@ -1,6 +1,5 @@
 -- When two chords alternate, said by the order of the faces: chords from left to right and caps on one side.
 -- Non-crossing connections at the two sides of a border place.
--- For the proofs of this crate alone.
 use Rattle.std.specs.Prelude.{ℕ, ◌↔◌, ◌⊎◌, Bool, List, IsTrue}
 use Rattle.std.specs.List.{Contains, AllPairs}
 use Rattle.ff_types.specs.Crossings.{circle, Alternate}

@@ -1,5 +1,4 @@
 -- Which chords there are at a border place. Non-crossing connections at the two sides of a border place.
--- For the proofs of this crate alone.
 use Rattle.std.specs.Prelude.{◌≡◌, ◌≢◌, ℕ, ◌<◌, ◌↔◌, ◌⊎◌, length, IsTrue, Some}
 use Rattle.std.specs.List.{Contains}
 use Rattle.ff_whole.specs.declared.places.Place.{Place}

@@ -1,6 +1,5 @@
 -- Where the row of a constraint isn't there, paper crosses, at a place on what its cite names. Non-crossing connections
 -- at the two sides of a border place; that a cite tells where they cross is this project's own.
--- For the proofs of this crate alone.
 use Rattle.std.specs.Prelude.{◌≡◌, ℕ, ◌⊎◌, Bool, List}
 use Rattle.ff_whole.specs.declared.places.Place.{Place}
 use Rattle.ff_types.specs.declared.cites.Cite.{Cite}

@@ -1,6 +1,5 @@
 -- The rows of the constraints that hold say exactly that no paper crosses. Flat-Folder's families of
 -- constraints; that they suffice at each border place is this project's own.
--- For the proofs of this crate alone.
 use Rattle.std.specs.Prelude.{ℕ, ◌↔◌, Bool}
 use Rattle.ff_types.specs.declared.cites.Cite.{Cite}
 use Rattle.ff_types.specs.Sheets.{Sheet}

@@ -1,5 +1,4 @@
 -- When faces can be listed bottom to top: exactly where no three of them go round. Elementary.
--- For the proofs of this crate alone.
 use Rattle.std.specs.Prelude.{◌≡◌, ◌≢◌, ℕ, ◌<◌, ◌↔◌, Bool, not, List, IsTrue}
 use Rattle.std.specs.List.{Contains}
 use Rattle.ff_tables.specs.Rows.{has_no_cycle}

@@ -1,6 +1,5 @@
 -- What it says of an order of faces that the values of terms are a row. The families are those of
 -- Flat-Folder's documentation; these exact rows are this project's own.
--- For the proofs of this crate alone.
 use Rattle.std.specs.Prelude.{◌≡◌, ◌≢◌, ℕ, ◌↔◌, Bool, not, List, [], ◌∷◌, map, IsTrue}
 use Rattle.ff_tables.specs.declared.orders.Order.{Order}
 use Rattle.ff_tables.specs.declared.terms.Kind.{Kind}

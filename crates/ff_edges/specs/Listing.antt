@@ -1,5 +1,4 @@
 -- A list that is made row by row: its items have a row and a column, and stand in this order.
--- For the proofs of this crate alone.
 use Rattle.std.specs.Prelude.{◌≡◌, ℕ, ◌<◌, ◌⊎◌, List, slice_get, Some, IsTrue}
 use Rattle.ff_types.specs.Pairs.{is_before}
 

@@ -1,5 +1,4 @@
 -- What contracts see of an adapter: its count of faults, and the bytes of its reader or writer where these are known.
--- For the proofs of this crate alone.
 use Rattle.std.specs.Prelude.{ℕ, List, Option}
 
 pub record Counted : Type 0 where

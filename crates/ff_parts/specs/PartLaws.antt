@@ -1,5 +1,4 @@
 -- What holds of the parts of whatever is undecided, whoever found them.
--- For the proofs of this crate alone.
 use Rattle.std.specs.Prelude.{◌≡◌, ◌≢◌, ◌↔◌, ℕ, List, Option, Some, Contains, slice_get}
 use Rattle.ff_tables.specs.declared.orders.Order.{Order}
 use Rattle.ff_tables.specs.declared.terms.Constraint.{Constraint}

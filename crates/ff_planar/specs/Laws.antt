@@ -1,5 +1,4 @@
 -- Laws of faces and refusals.
--- For the proofs of this crate alone.
 use Rattle.std.specs.Prelude.{◌≡◌, ℕ, List, Option}
 use Rattle.ff_whole.specs.declared.points.Pt.{Pt}
 use Rattle.ff_types.specs.declared.patterns.EdgeEnds.{EdgeEnds}

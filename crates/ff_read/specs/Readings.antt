@@ -1,5 +1,4 @@
 -- Bytes come to one pattern or to one refusal.
--- For the proofs of this crate alone.
 use Rattle.std.specs.Prelude.{ℕ, ◌≡◌, List}
 use Rattle.ff_types.specs.declared.patterns.Pattern.{Pattern}
 use Rattle.ff_types.specs.declared.refusals.Refusal.{Refusal}

@@ -1,5 +1,4 @@
 -- Laws of reports. This project's own.
--- For the proofs of this crate alone.
 use Rattle.std.specs.Prelude.{◌≡◌, ℕ, Bool, List, [], Option}
 use Rattle.ff_tables.specs.declared.orders.Order.{Order}
 use Rattle.ff_types.specs.declared.faces.Faces.{Faces}

@@ -1,5 +1,4 @@
 -- That what is forced from less that is known is forced from more.
--- For the proofs of this crate alone.
 use Rattle.std.specs.Prelude.{ℕ, ◌<◌, Bool, IsTrue, length, Option}
 use Rattle.ff_tables.specs.declared.orders.Order.{Order}
 use Rattle.ff_tables.specs.declared.terms.Constraint.{Constraint}

@@ -1,5 +1,4 @@
 -- A sheet with one crease: a convex ring whose edges are border edges, and one more edge across it. This project's own.
--- For the proofs of this crate alone.
 use Rattle.std.specs.Prelude.{◌≡◌, ◌≢◌, ℕ, zero, suc, ◌+◌, ◌-◌, ◌<◌, ◌⊎◌, ◌==◌, ◌&&◌, ℤ, pos, ◌<ℤ◌, Bool, not, List, [], ◌∷◌, ◌++◌, length, Some}
 use Rattle.std.specs.List.{range_with_len}
 use Rattle.ff_whole.specs.declared.points.Pt.{Pt}

@@ -1,5 +1,4 @@
 -- A plain sheet: a convex ring of points whose edges are all border edges. This project's own.
--- For the proofs of this crate alone.
 use Rattle.std.specs.Prelude.{◌≡◌, ℕ, ◌<◌, ◌≤◌, pos, Bool, true, false, List, [], ◌∷◌, length, Some, None}
 use Rattle.std.specs.List.{All, range_with_len}
 use Rattle.ff_whole.specs.declared.points.Pt.{Pt}
