@@ -1,6 +1,8 @@
 -- It can't be that no list is of all constraints that hold.
 use Rattle.std.proofs.Common.{◌≡◌, ℕ, ◌+◌, ◌<◌, ◌&&◌, true, List, [], ◌∷◌, length, IsTrue, refl, sym, ◌∙◌, arith}
 use Rattle.std.specs.List.{All, Contains, list_all}
+use Rattle.ff_basics.proofs.Lists.{place_of_member}
+use Rattle.ff_basics.proofs.Tests.{both_of}
 use Rattle.ff_whole.specs.declared.places.Place.{Place}
 use Rattle.ff_types.specs.declared.patterns.Pattern.{Pattern}
 use Rattle.ff_types.specs.declared.faces.Faces.{Faces}
@@ -14,10 +16,10 @@ use Rattle.ff_types.specs.Witnesses.{witness_edge, witness_face}
 use Rattle.ff_types.specs.Cites.{Witnessed, is_folded_edge, is_flat_edge}
 use Rattle.ff_types.specs.Cases.{key}
 use Rattle.ff_types.specs.FoldedPatterns.{IsFoldedPattern}
-use Rattle.ff_borders.proofs.Tests.{both_of, below_from}
+use Rattle.ff_borders.proofs.Tests.{below_from}
 use Rattle.ff_borders.proofs.TwoSides.{folded_edge, flat_edge}
 use Rattle.ff_answers.specs.Layers.{AreAllCites, HasCites}
-use Rattle.ff_answers.proofs.Finite.{IsWord, IsOrder, in_order, AreInRow, is_at, in_row_at, place_of_member}
+use Rattle.ff_answers.proofs.Finite.{IsWord, IsOrder, in_order, AreInRow, is_at, in_row_at}
 use Rattle.ff_answers.proofs.Keys.{keys_compare, keys_later}
 use Rattle.ff_answers.proofs.Places.{some_witness}
 

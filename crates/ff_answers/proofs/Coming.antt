@@ -1,5 +1,6 @@
 -- A pattern that folds is refused or comes to a case.
 use Rattle.std.proofs.Common.{◌≡◌, ◌≢◌, ◌⊎◌, inl, inr, ℕ, ◌<◌, ◌≤◌, List, length, IsTrue, refl, sym, subst, arith}
+use Rattle.ff_basics.proofs.Numbers.{at_most_or}
 use Rattle.ff_whole.specs.declared.places.Place.{Place}
 use Rattle.ff_types.specs.declared.limits.TheConstants.{MOST_CONSTRAINTS}
 use Rattle.ff_types.specs.declared.patterns.Pattern.{Pattern}
@@ -28,9 +29,6 @@ use Rattle.ff_problem.specs.Limits.{HasManyPairs, RefusesCase}
 use Rattle.ff_problem.specs.Problems.{IsProblem}
 use Rattle.ff_problem.proofs.Counts.{no_more_pairs, no_more_constraints}
 use Rattle.ff_answers.proofs.Building.{the_case}
-
-few_or_many : (n most : ℕ) → (n ≤ most) ⊎ (most < n)
-few_or_many n most = grind arith
 
 keys_differ : (p q : List ℕ) → IsTrue (list_before p q) → p ≢ q
 keys_differ p q b e = lists_apart p q b (subst (λ x. IsTrue (list_before q x)) (sym e)
@@ -74,7 +72,7 @@ module _ {pattern : Pattern} {faces : Faces} {folded : Folded} (h : IsFoldedPatt
     ))
 
     by_cites : (cites : List Cite) → AreAllCites g cites → ⊥
-    by_cites cites all = elim (few_or_many
+    by_cites cites all = elim (at_most_or
         (length cites) MOST_CONSTRAINTS) [ inl l ↦ few_cites cites all l | inr l ↦ many_cites cites all l ]
 
   module _ (few : HasFewCells g) where
@@ -95,15 +93,15 @@ module _ {pattern : Pattern} {faces : Faces} {folded : Folded} (h : IsFoldedPatt
     ))
 
     by_pairs : (pairs : List (ℕ × ℕ)) → AreAllPairs g pairs → ⊥
-    by_pairs pairs are = elim (few_or_many (length pairs) MOST_PAIRS) [
+    by_pairs pairs are = elim (at_most_or (length pairs) MOST_PAIRS) [
       | inl l ↦ some_cites h (by_cites few pairs are l)
       | inr l ↦ many_pairs pairs are l
     ]
 
   by_cells : (places : List Place) → AreOneEach g places → ⊥
-  by_cells places one = elim (few_or_many (length places) MOST_CELLS) [
+  by_cells places one = elim (at_most_or (length places) MOST_CELLS) [
     | inr l ↦ none (TooMany Cells MOST_CELLS) (inl (inl (refl, (places, one.stand, l))))
-    | inl l ↦ elim (few_or_many (entries g places) MOST_ENTRIES) [
+    | inl l ↦ elim (at_most_or (entries g places) MOST_ENTRIES) [
       | inr m ↦ none (TooMany Entries MOST_ENTRIES) (inl (inr (refl, (places, one, l, m))))
       | inl m ↦ some_pairs g (by_pairs (record { places = places; one_each = one; few = l; few_entries = m }))
     ]

@@ -1,12 +1,10 @@
 -- Of finitely many propositions it can't be that they aren't all decided.
 use Rattle.std.proofs.Common.{◌≡◌, ◌⊎◌, inl, inr, ℕ, zero, suc, ◌+◌, ◌<◌, ◌≤◌, List, [], ◌∷◌, length, slice_index, sym, subst, arith, Contains}
-use Rattle.ff_types.proofs.Memberships.{first_member, later_member}
+use Rattle.ff_basics.proofs.Memberships.{first_member, later_member}
+use Rattle.ff_basics.proofs.Numbers.{below_or_last}
 
 pub either_way : (P : Type 0) → ((P ⊎ (P → ⊥)) → ⊥) → ⊥
 either_way P k = k (inr (λ p. k (inl p)))
-
-pub below_or_last : (n i : ℕ) → i < suc n → (i < n) ⊎ (i ≡ n)
-below_or_last n i h = grind (arith, h)
 
 -- what can't fail to be for each number can't fail to be for all
 pub each_below : (n : ℕ) (P : ℕ → Type 0) → ((i : ℕ) → i < n → (P i → ⊥) → ⊥) → (((i : ℕ) → i < n → P i) → ⊥) → ⊥

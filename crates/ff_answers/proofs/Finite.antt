@@ -2,8 +2,10 @@
 use Rattle.std.proofs.Common.{◌≡◌, ◌⊎◌, inl, inr, ℕ, zero, suc, ◌<◌, List, [], ◌∷◌, slice_get, Some, refl, sym, ap, subst, ◌∙◌, arith}
 use Rattle.std.specs.List.{All, Contains}
 use Rattle.std.proofs.lemmas.List.Elements.{All-nil, All-cons, All-head, All-tail}
-use Rattle.std.proofs.lemmas.Option.{slice_get_within, slice_get-get_or, get_or_from_slice_get}
-use Rattle.ff_types.proofs.Memberships.{no_member, by_member, first_member, later_member}
+use Rattle.std.proofs.lemmas.Option.{slice_get_within, slice_get-get_or, get_or_from_slice_get, same_Some}
+use Rattle.ff_basics.proofs.Memberships.{by_member, first_member, later_member, no_member}
+use Rattle.ff_basics.proofs.Numbers.{below_or_last}
+use Rattle.ff_basics.proofs.Lists.{each_from, place_of_member}
 
 -- a proposition holds or doesn't, where nothing is to be shown but that something can't be
 pub either_way : (P : Type 0) → ((P ⊎ (P → ⊥)) → ⊥) → ⊥
@@ -11,10 +13,6 @@ either_way P k = k (inr (λ p. k (inl p)))
 
 pub member_of : {A : Type 0} (P : A → Type 0) (xs : List A) → All P xs → (x : A) → Contains xs x → P x
 member_of P xs h x (k, l, e) = subst P e (h k x l)
-
-pub all_from : {A : Type 0} (P : A → Type 0) (xs : List A) → ((x : A) → Contains xs x → P x) → All P xs
-all_from P [] h = All-nil P
-all_from P (x ∷ xs) h = All-cons P x xs (h x (first_member x xs x refl)) (all_from P xs (λ y m. h y (later_member x xs y m)))
 
 -- what can't fail to hold of each can't fail to hold of all
 pub of_all : {A : Type 0} (P : A → Type 0) (xs : List A) → ((x : A) → Contains xs x → (P x → ⊥) → ⊥) → (All P xs → ⊥) → ⊥
@@ -54,9 +52,6 @@ behind_prefixed : (x : ℕ) (words rest : List (List ℕ)) (word : List ℕ) →
 behind_prefixed x [] rest word m = m
 behind_prefixed x (w ∷ words) rest word m = later_member (x ∷ w) (prefixed x words rest) word
     (behind_prefixed x words rest word m)
-
-below_or_last : (n i : ℕ) → i < suc n → (i < n) ⊎ (i ≡ n)
-below_or_last n i h = grind (arith, h)
 
 in_spread : (m x : ℕ) (words : List (List ℕ)) (word : List ℕ) → x < m → Contains words word → Contains (spread m words) (x ∷ word)
 in_spread zero x words word l c = absurd (omega (arith, l))
@@ -153,7 +148,7 @@ module _ {A : Type 0} (Is : A → Type 0) (Before Same : A → A → Type 0) (or
         at again (inr (inl before)) = again (λ ys i. k (z ∷ ys) (record {
           are = All-cons Is z ys (All-head Is z zs all) i.are;
           in_row = (
-            all_from (Before z) ys (λ y m. elim (i.only y m) [
+            each_from (Before z) ys (λ y m. elim (i.only y m) [
               | inl e ↦ subst (Before z) e before
               | inr c ↦ member_of (Before z) zs row.0 y c
             ]),
@@ -194,9 +189,6 @@ module _ {A : Type 0} (Is : A → Type 0) (Before Same : A → A → Type 0) (or
 
 -- ---- by places
 
-the_same : {A : Type 0} (x y : A) → Some x ≡ Some y → x ≡ y
-the_same x y e = cc
-
 pub is_at : {A : Type 0} (P : A → Type 0) (xs : List A) → All P xs → (n : ℕ) (x : A) → slice_get xs n ≡ Some x → P x
 is_at P xs all n x e = subst P (get_or_from_slice_get xs n x x e) (all n x (slice_get_within xs n x e))
 
@@ -204,8 +196,5 @@ pub in_row_at : {A : Type 0} (R : A → A → Type 0) (xs : List A) → AreInRow
     → slice_get xs m ≡ Some x → slice_get xs n ≡ Some y → R x y
 in_row_at R [] row m n x y l e f = absurd (omega (arith, slice_get_within [] m x e))
 in_row_at R (z ∷ zs) row m zero x y l e f = absurd (omega (arith, l))
-in_row_at R (z ∷ zs) row zero (suc n) x y l e f = is_at (R x) zs (subst (λ w. All (R w) zs) (the_same z x e) row.0) n y f
+in_row_at R (z ∷ zs) row zero (suc n) x y l e f = is_at (R x) zs (subst (λ w. All (R w) zs) (same_Some z x e) row.0) n y f
 in_row_at R (z ∷ zs) row (suc m) (suc n) x y l e f = in_row_at R zs row.1 m n x y (omega (arith, l)) e f
-
-pub place_of_member : {A : Type 0} (xs : List A) (x : A) → Contains xs x → (n : ℕ) × (slice_get xs n ≡ Some x)
-place_of_member xs x (k, l, e) = (k, slice_get-get_or xs k x l ∙ ap Some e)

@@ -1,14 +1,12 @@
 -- Keys are in an order.
 use Rattle.std.proofs.Common.{◌≡◌, ◌⊎◌, inl, inr, ℕ, ◌<◌, ◌==◌, ◌&&◌, List, [], ◌∷◌, nat_lt, IsTrue, refl, sym, ap, ◌∙◌, arith}
 use Rattle.std.proofs.lemmas.Bool.{false≢true, lt-ltb, eq-eqb, ltb-true, eqb-true}
+use Rattle.ff_basics.proofs.Tests.{both_of, either_of, of_both, of_first, of_second}
+use Rattle.ff_basics.proofs.Numbers.{which}
 use Rattle.ff_types.specs.Faces.{list_before}
-use Rattle.ff_borders.proofs.Tests.{both_of, of_first, of_second, of_both, either_of}
 
 abbrev Before : List ℕ → List ℕ → Type 0
 Before p q = IsTrue (list_before p q)
-
-number_order : (m n : ℕ) → (m < n) ⊎ ((n < m) ⊎ (m ≡ n))
-number_order m n = grind arith
 
 first_before : (x y : ℕ) (p q : List ℕ) → x < y → Before (x ∷ p) (y ∷ q)
 first_before x y p q l = of_first (nat_lt x y) ((x == y) && list_before p q) (lt-ltb x y l)
@@ -27,7 +25,7 @@ pub keys_compare : (p q : List ℕ) → Before p q ⊎ (Before q p ⊎ (p ≡ q)
 keys_compare [] [] = inr (inr refl)
 keys_compare [] (y ∷ q) = inl refl
 keys_compare (x ∷ p) [] = inr (inl refl)
-keys_compare (x ∷ p) (y ∷ q) = elim (number_order x y) [
+keys_compare (x ∷ p) (y ∷ q) = elim (which x y) [
   | inl l ↦ inl (first_before x y p q l)
   | inr (inl l) ↦ inr (inl (first_before y x q p l))
   | inr (inr e) ↦ elim (keys_compare p q) [

@@ -2,14 +2,17 @@
 use Rattle.std.proofs.Common.{◌≡◌, ◌⊎◌, inl, inr, ℕ, ◌<◌, ◌==◌, ◌&&◌, true, List, [], ◌∷◌, length, nat_lt, Some, IsTrue, refl, sym, ap, ◌∙◌, arith}
 use Rattle.std.specs.List.{All, Contains, list_all}
 use Rattle.std.proofs.lemmas.Bool.{lt-ltb, eq-eqb}
+use Rattle.ff_basics.proofs.Lists.{place_of_member}
+use Rattle.ff_basics.proofs.Tests.{both_of, of_both, of_first, of_second}
+use Rattle.ff_basics.proofs.Numbers.{which}
 use Rattle.ff_whole.specs.declared.places.Place.{Place}
 use Rattle.ff_types.specs.Pairs.{is_before}
 use Rattle.ff_types.specs.Sheets.{Sheet, is_face}
 use Rattle.ff_types.specs.Inside.{is_inside, Overlap}
 use Rattle.ff_types.proofs.SortedPairs.{before_is}
-use Rattle.ff_borders.proofs.Tests.{both_of, of_first, of_second, of_both, below_from}
+use Rattle.ff_borders.proofs.Tests.{below_from}
 use Rattle.ff_answers.specs.Layers.{AreAllPairs, HasPairs}
-use Rattle.ff_answers.proofs.Finite.{IsWord, IsOrder, in_order, AreInRow, is_at, in_row_at, place_of_member}
+use Rattle.ff_answers.proofs.Finite.{IsWord, IsOrder, in_order, AreInRow, is_at, in_row_at}
 
 abbrev Before : ℕ × ℕ → ℕ × ℕ → Type 0
 Before p q = IsTrue (is_before p q)
@@ -21,17 +24,14 @@ then_before : (p q : ℕ × ℕ) → p.0 ≡ q.0 → p.1 < q.1 → Before p q
 then_before p q e l = of_second (nat_lt p.0 q.0) ((p.0 == q.0) && nat_lt p.1 q.1)
     (of_both (p.0 == q.0) (nat_lt p.1 q.1) (eq-eqb p.0 q.0 e) (lt-ltb p.1 q.1 l))
 
-number_order : (m n : ℕ) → (m < n) ⊎ ((n < m) ⊎ (m ≡ n))
-number_order m n = grind arith
-
 same_pair : (p q : ℕ × ℕ) → p.0 ≡ q.0 → p.1 ≡ q.1 → p ≡ q
 same_pair p q e f = ap (λ x. (x, p.1)) e ∙ ap (λ x. (q.0, x)) f
 
 pairs_compare : (p q : ℕ × ℕ) → Before p q ⊎ (Before q p ⊎ (p ≡ q))
-pairs_compare p q = elim (number_order p.0 q.0) [
+pairs_compare p q = elim (which p.0 q.0) [
   | inl l ↦ inl (first_before p q l)
   | inr (inl l) ↦ inr (inl (first_before q p l))
-  | inr (inr e) ↦ elim (number_order p.1 q.1) [
+  | inr (inr e) ↦ elim (which p.1 q.1) [
     | inl l ↦ inl (then_before p q e l)
     | inr (inl l) ↦ inr (inl (then_before q p (sym e) l))
     | inr (inr f) ↦ inr (inr (same_pair p q e f))

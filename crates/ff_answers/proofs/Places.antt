@@ -3,6 +3,8 @@ use Rattle.std.proofs.Common.{◌≡◌, ℕ, ◌&&◌, Bool, true, List, [], �
 use Rattle.std.specs.Prelude.{int_lt, int_le}
 use Rattle.std.specs.List.{All, list_all, list_any}
 use Rattle.std.proofs.lemmas.List.Elements.{All-nil, All-cons}
+use Rattle.ff_basics.proofs.Lists.{all_at, all_from}
+use Rattle.ff_basics.proofs.Tests.{both_of, lt_from, of_both, of_first, to_le}
 use Rattle.ff_whole.proofs.Signs.{linear}
 use Rattle.ff_whole.specs.declared.places.Place.{Place}
 use Rattle.ff_whole.specs.Places.{IsPlace}
@@ -20,7 +22,6 @@ use Rattle.ff_types.specs.Cites.{Holds, Witnessed}
 use Rattle.ff_types.specs.Cases.{key}
 use Rattle.ff_types.specs.FoldedPatterns.{IsFoldedPattern}
 use Rattle.ff_borders.specs.Running.{IsOnInside}
-use Rattle.ff_borders.proofs.Tests.{both_of, of_both, lt_from, to_le, all_from, all_at, of_first}
 use Rattle.ff_borders.proofs.Running.{inside_by_one_place}
 use Rattle.ff_borders.proofs.TwoSides.{folded_edge, flat_edge}
 

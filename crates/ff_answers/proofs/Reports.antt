@@ -18,9 +18,9 @@ use Rattle.ff_report.specs.declared.parts.PartOutcome.TheVariants as outcome
 use Rattle.ff_answers.specs.Ends.{HasEnds}
 use Rattle.ff_answers.proofs.Deciding.{either_way}
 use Rattle.ff_answers.proofs.Ending.{each_system_ends}
-use Rattle.ff_solve.specs.declared.texts.Last.{Last}
-use Rattle.ff_solve.specs.declared.texts.Last.TheVariants as last
-use Rattle.ff_solve.specs.Lines.{last_of, board_text, clash_report}
+use Rattle.ff_report.specs.declared.lines.Last.{Last}
+use Rattle.ff_report.specs.declared.lines.Last.TheVariants as last
+use Rattle.ff_report.specs.Lines.{last_of, board_text, clash_report}
 use Rattle.ff_solve.specs.Outcomes.{EndsWithin, IsOutcome, AreOutcomes}
 use Rattle.ff_solve.specs.Reports.{IsReport}
 use Rattle.ff_answers.specs.Answers.{CasesHaveReports}

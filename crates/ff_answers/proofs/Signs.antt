@@ -6,6 +6,8 @@ use Rattle.std.specs.List.{Contains}
 use Rattle.std.proofs.lemmas.Int.{ints}
 use Rattle.std.proofs.lemmas.Bool.{false≢true}
 use Rattle.std.proofs.lemmas.Bool.Decides.{Decides-int_eq}
+use Rattle.ff_basics.proofs.Memberships.{by_member, first_member, later_member, no_member}
+use Rattle.ff_basics.proofs.Numbers.{below_or_last}
 use Rattle.ff_whole.proofs.Formulas.{line_e, line_env, place_e, place_env, height_e, slant_e}
 use Rattle.ff_whole.proofs.Ring.{var, num, ◌⊕◌, ◌⊖◌, ◌⊗◌, solve}
 use Rattle.ff_whole.proofs.Signs.{linear, by_sign, pos-mul, pos-mul_neg, neg-mul_pos, neg-mul_neg, pos_from_mul}
@@ -17,7 +19,6 @@ use Rattle.ff_whole.specs.declared.places.Place.{Place}
 use Rattle.ff_types.specs.Patterns.{edge_at}
 use Rattle.ff_types.specs.Sheets.{Sheet, tail, line_of}
 use Rattle.ff_types.specs.Borders.{is_on}
-use Rattle.ff_types.proofs.Memberships.{no_member, by_member, first_member, later_member}
 use Rattle.ff_cells.specs.declared.bars.Bar.{Bar}
 use Rattle.ff_cells.specs.Gap.{run, spot}
 use Rattle.ff_cells.specs.SlabCells.{IsOnBorder, IsLeftOf, IsBelow, IsInCell, IsBefore}
@@ -82,9 +83,6 @@ row (suc n) f rest = f n ∷ row n f rest
 abbrev grid : ℕ → ℕ → (ℕ → ℕ → Line) → List Line → List Line
 grid zero n f rest = rest
 grid (suc m) n f rest = row n (f m) (grid m n f rest)
-
-below_or_last : (n i : ℕ) → i < suc n → (i < n) ⊎ (i ≡ n)
-below_or_last n i h = grind (arith, h)
 
 in_row : (n : ℕ) (f : ℕ → Line) (rest : List Line) (i : ℕ) → i < n → Contains (row n f rest) (f i)
 in_row zero f rest i l = absurd (omega (arith, l))

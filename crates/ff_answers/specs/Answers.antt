@@ -9,7 +9,7 @@ use Rattle.ff_types.specs.Sheets.{sheet_of}
 use Rattle.ff_types.specs.FoldedPatterns.{IsFoldedPattern}
 use Rattle.ff_problem.specs.Limits.{RefusesCase}
 use Rattle.ff_problem.specs.Problems.{IsProblem}
-use Rattle.ff_solve.specs.declared.texts.Last.{Last}
+use Rattle.ff_report.specs.declared.lines.Last.{Last}
 use Rattle.ff_solve.specs.Reports.{IsReport}
 
 -- it can't be that a pattern that folds isn't refused and comes to no case

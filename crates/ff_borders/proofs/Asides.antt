@@ -3,6 +3,8 @@
 use Rattle.std.proofs.Common.{◌≡◌, ◌≢◌, ℕ, ◌<◌, refl, arith, ℤ, pos, ◌*ℤ◌, ◌<ℤ◌, ◌≤ℤ◌, IsTrue, List, [], ◌∷◌, length}
 use lib.IntN.{neg_ℤ}
 use Rattle.std.specs.Prelude.{int_le}
+use Rattle.ff_basics.proofs.Lists.{all_at, all_from}
+use Rattle.ff_basics.proofs.Tests.{at_most_from, le_from, not_true, to_at_most, to_le}
 use Rattle.ff_whole.specs.declared.points.Pt.{Pt}
 use Rattle.ff_whole.specs.declared.places.Place.{Place}
 use Rattle.ff_whole.specs.Points.{minus, dot}
@@ -21,7 +23,6 @@ use Rattle.ff_types.specs.Covering.{lies_left, lies_right}
 use Rattle.ff_types.specs.FoldedPatterns.{IsFoldedPattern}
 use Rattle.ff_types.proofs.CreaseOverlap.{Listed}
 use Rattle.ff_borders.specs.Lying.{IsLeftAlone, IsRightAlone}
-use Rattle.ff_borders.proofs.Tests.{le_from, to_le, at_most_from, to_at_most, all_from, all_at, not_true}
 use Rattle.ff_borders.proofs.Steps.{step_line, long, step_left, step_wide}
 use Rattle.ff_borders.proofs.Parallels.{listed_from, from_listing}
 

@@ -7,6 +7,9 @@ use Rattle.std.specs.List.{list_all, Contains}
 use Rattle.std.proofs.lemmas.Int.{ints}
 use Rattle.std.proofs.lemmas.Bool.{cases_lt}
 use Rattle.std.proofs.lemmas.List.Elements.{All-contains}
+use Rattle.ff_basics.proofs.Lists.{all_from}
+use Rattle.ff_basics.proofs.Tests.{not_false, of_both, to_lt}
+use Rattle.ff_basics.proofs.Memberships.{by_member, first_member, later_member, no_member}
 use Rattle.ff_whole.specs.declared.points.Pt.{Pt}
 use Rattle.ff_whole.specs.declared.lines.Line.{Line}
 use Rattle.ff_whole.specs.declared.places.Place.{Place}
@@ -22,9 +25,8 @@ use Rattle.ff_types.specs.Faces.{ring_at}
 use Rattle.ff_types.specs.Rings.{Goes}
 use Rattle.ff_types.specs.Sheets.{Sheet, is_face}
 use Rattle.ff_types.specs.Inside.{steps, depth, is_inside}
-use Rattle.ff_types.proofs.Memberships.{no_member, by_member, first_member, later_member}
 use Rattle.ff_types.proofs.FoldedOverlap.{step_goes}
-use Rattle.ff_borders.proofs.Tests.{by_test, not_false, of_both, to_lt, all_from, is_below}
+use Rattle.ff_borders.proofs.Tests.{by_test, is_below}
 use Rattle.ff_borders.proofs.Steps.{step_line, depth-line}
 
 pub map_in : {A B : Type 0} (f : A → B) (xs : List A) (x : A) → Contains xs x → Contains (map f xs) (f x)

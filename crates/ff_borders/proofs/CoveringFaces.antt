@@ -1,6 +1,7 @@
 -- Faces that lie on one side of an edge at a plain border place overlap, and each overlaps those with the
 -- place inside.
 use Rattle.std.proofs.Common.{◌≢◌, ℕ, ◌<◌, ◌⊎◌, inl, inr, ◌&&◌, IsTrue, length}
+use Rattle.ff_basics.proofs.Tests.{of_both, of_first, of_second}
 use Rattle.ff_whole.specs.declared.places.Place.{Place}
 use Rattle.ff_types.specs.declared.patterns.Pattern.{Pattern}
 use Rattle.ff_types.specs.declared.patterns.Mark.TheVariants.{B}
@@ -13,7 +14,7 @@ use Rattle.ff_types.specs.Covering.{is_on_ring, lies_left, lies_right, covers_le
 use Rattle.ff_types.specs.Cites.{lesser, greater}
 use Rattle.ff_types.specs.FoldedPatterns.{IsFoldedPattern}
 use Rattle.ff_borders.specs.Lying.{IsLeftAlone, IsRightAlone}
-use Rattle.ff_borders.proofs.Tests.{of_both, of_first, of_second, on_ring_edge}
+use Rattle.ff_borders.proofs.Tests.{on_ring_edge}
 use Rattle.ff_borders.proofs.TwoSides.{two_faces, lesser_bounds, greater_bounds}
 use Rattle.ff_borders.proofs.SideFaces.{side_faces_overlap}
 

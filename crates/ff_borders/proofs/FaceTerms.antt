@@ -1,6 +1,7 @@
 -- The terms where an edge has a part inside a face, and where three faces have a common place.
 use Rattle.std.proofs.Common.{◌≢◌, ℕ, ◌<◌, inl, inr, refl, subst, arith, true, ◌&&◌, IsTrue, [], ◌∷◌, length}
 use Rattle.std.specs.List.{list_all}
+use Rattle.ff_basics.proofs.Tests.{both_of, of_both}
 use Rattle.ff_whole.specs.declared.places.Place.{Place}
 use Rattle.ff_types.specs.declared.patterns.Pattern.{Pattern}
 use Rattle.ff_types.specs.declared.patterns.Mark.TheVariants.{B}
@@ -13,7 +14,6 @@ use Rattle.ff_types.specs.Segments.{HasEdgeInside}
 use Rattle.ff_types.specs.Cites.{lesser, greater}
 use Rattle.ff_types.specs.FoldedPatterns.{IsFoldedPattern}
 use Rattle.ff_borders.specs.Terms.{IsOverlapping}
-use Rattle.ff_borders.proofs.Tests.{both_of, of_both}
 use Rattle.ff_borders.proofs.TwoSides.{lesser_bounds, greater_bounds}
 use Rattle.ff_borders.proofs.Lying.{ring_faces_lie_aside}
 use Rattle.ff_borders.proofs.Running.{none_inside_own, parts_inside_have_plain}

@@ -3,6 +3,7 @@
 use Rattle.std.proofs.Common.{◌≡◌, ◌≢◌, ℕ, ◌<◌, ◌≤◌, ◌==◌, ◌⊎◌, inl, inr, refl, sym, ◌∙◌, ap, subst, arith, pos, ◌<ℤ◌, Bool, true, false, ◌&&◌, IsTrue, List, [], ◌∷◌, length, cond}
 use Rattle.std.specs.List.{AllPairs, filter, range_with_len}
 use Rattle.std.proofs.lemmas.Bool.{false≢true, eqb-true, eqb-false, cases_lt}
+use Rattle.ff_basics.proofs.Tests.{both_of, of_both}
 use Rattle.ff_whole.specs.declared.points.Pt.{Pt}
 use Rattle.ff_whole.specs.declared.places.Place.{Place}
 use Rattle.ff_whole.specs.Places.{IsPlace, through, height}
@@ -21,7 +22,6 @@ use Rattle.ff_types.specs.FoldedPatterns.{IsFoldedPattern}
 use Rattle.ff_types.proofs.FewFaces.{overlap_first, overlap_second, overlap_turned, no_overlap_empty}
 use Rattle.ff_types.proofs.TwoFaces.{two_faces_geometric}
 use Rattle.ff_borders.specs.FlatSheets.{IsOnlyFlat, none_above, OneFlatHasTwoFaces, OneFlatCoversOnce, OneFlatStacks, OneFlatStacksAlone}
-use Rattle.ff_borders.proofs.Tests.{both_of, of_both}
 use Rattle.ff_borders.proofs.Steps.{side_line, signed-line, signed-back, left_goes, right_goes}
 use Rattle.ff_borders.proofs.TwoSides.{HasSides, both_sides, sides_differ, flat_edge, flat_inner, flat_is}
 use Rattle.ff_borders.proofs.Lying.{by_flat}

@@ -4,6 +4,7 @@
 use Rattle.std.proofs.Common.{◌≡◌, ℕ, ◌<◌, ◌⊎◌, inl, inr, refl, sym, ◌∙◌, ap, subst, arith, ℤ, pos, Bool, true, false, not, IsTrue, length, Some}
 use lib.IntN.{neg_ℤ}
 use Rattle.std.proofs.lemmas.Bool.{false≢true}
+use Rattle.ff_basics.proofs.Tests.{not_true}
 use Rattle.ff_whole.specs.declared.points.Pt.{Pt}
 use Rattle.ff_whole.specs.declared.places.Place.{Place}
 use Rattle.ff_whole.specs.Points.{minus, dot, cross}
@@ -24,7 +25,7 @@ use Rattle.ff_types.specs.Cites.{is_folded_edge, is_flat_edge, greater}
 use Rattle.ff_types.specs.FoldedPatterns.{IsFoldedPattern}
 use Rattle.ff_types.proofs.FoldedOverlap.{inside_step}
 use Rattle.ff_borders.specs.Lying.{IsLeftAlone, IsRightAlone, RingFacesLieAside, FlatFacesPart, FoldedFacesMeet}
-use Rattle.ff_borders.proofs.Tests.{not_true, bounds_from, on_from, parallel_from, plain_on}
+use Rattle.ff_borders.proofs.Tests.{bounds_from, on_from, parallel_from, plain_on}
 use Rattle.ff_borders.proofs.Steps.{step_line, signed-line, signed-twice, depth-line, left_goes, right_goes}
 use Rattle.ff_borders.proofs.Parallels.{slant-cross, leads-side, leads-inner, cross-back, dot-back, signed-zero}
 use Rattle.ff_borders.proofs.TwoSides.{HasSides, both_sides, by_order, folded_edge, flat_edge, folded_inner, flat_inner, flat_is}

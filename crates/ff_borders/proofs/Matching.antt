@@ -2,6 +2,7 @@
 -- one not.
 use Rattle.std.proofs.Common.{◌≡◌, ◌≢◌, ℕ, ◌<◌, inl, inr, refl, sym, ◌∙◌, Bool, true, false, ◌&&◌, ◌||◌, IsTrue, [], ◌∷◌, length, if◌then◌else◌}
 use Rattle.std.proofs.lemmas.Bool.{false≢true}
+use Rattle.ff_basics.proofs.Tests.{of_both, of_first, of_second}
 use Rattle.ff_types.specs.declared.patterns.Pattern.{Pattern}
 use Rattle.ff_types.specs.declared.patterns.Mark.TheVariants.{B}
 use Rattle.ff_types.specs.declared.faces.Faces.{Faces}
@@ -13,7 +14,6 @@ use Rattle.ff_types.specs.Terms.{matching, opposed}
 use Rattle.ff_types.specs.FoldedPatterns.{IsFoldedPattern}
 use Rattle.ff_borders.specs.Lying.{IsLeftAlone, IsRightAlone}
 use Rattle.ff_borders.specs.Terms.{MatchingLies}
-use Rattle.ff_borders.proofs.Tests.{of_both, of_first, of_second}
 use Rattle.ff_borders.proofs.TwoSides.{lesser_bounds, greater_bounds}
 use Rattle.ff_borders.proofs.Lying.{flat_faces_part}
 

@@ -8,6 +8,8 @@ use Rattle.std.specs.List.{list_all}
 use Rattle.std.proofs.lemmas.Int.{ints}
 use Rattle.std.proofs.lemmas.Bool.{false≢true}
 use Rattle.std.proofs.lemmas.Bool.Decides.{Decides-int_eq}
+use Rattle.ff_basics.proofs.Lists.{all_from}
+use Rattle.ff_basics.proofs.Tests.{both_of, not_true, of_both, to_lt}
 use Rattle.ff_whole.specs.declared.points.Pt.{Pt}
 use Rattle.ff_whole.specs.declared.lines.Line.{Line}
 use Rattle.ff_whole.specs.declared.places.Place.{Place}
@@ -29,7 +31,7 @@ use Rattle.ff_types.specs.Sheets.{Sheet, is_face}
 use Rattle.ff_types.specs.Inside.{steps, depth, is_inside}
 use Rattle.ff_types.proofs.FewFaces.{inside_face}
 use Rattle.ff_types.proofs.FoldedOverlap.{step_goes, inside_step}
-use Rattle.ff_borders.proofs.Tests.{both_of, of_both, not_true, to_lt, all_from, is_below}
+use Rattle.ff_borders.proofs.Tests.{is_below}
 use Rattle.ff_borders.proofs.Steps.{step_line, depth-line}
 
 -- ---- one place or two

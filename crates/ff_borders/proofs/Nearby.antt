@@ -4,6 +4,9 @@ use Rattle.std.proofs.Common.{◌≡◌, ◌≢◌, ℕ, ◌<◌, refl, sym, ◌
 use lib.IntN.{*ℤ-zero}
 use Rattle.std.specs.List.{All, Contains}
 use Rattle.std.proofs.lemmas.List.Elements.{All-cons, All-head, All-tail}
+use Rattle.ff_basics.proofs.Lists.{all_from}
+use Rattle.ff_basics.proofs.Tests.{not_false}
+use Rattle.ff_basics.proofs.Memberships.{by_member, first_member, later_member, no_member}
 use Rattle.ff_whole.specs.declared.points.Pt.{Pt}
 use Rattle.ff_whole.specs.declared.lines.Line.{Line}
 use Rattle.ff_whole.specs.declared.places.Place.{Place}
@@ -23,9 +26,8 @@ use Rattle.ff_types.specs.declared.faces.Folded.{Folded}
 use Rattle.ff_types.specs.Sheets.{Sheet, sheet_of, tail, head, line_of, edges_of}
 use Rattle.ff_types.specs.Borders.{is_on, is_between, are_parallel, is_plain_at}
 use Rattle.ff_types.specs.FoldedPatterns.{IsFoldedPattern}
-use Rattle.ff_types.proofs.Memberships.{no_member, by_member, first_member, later_member}
 use Rattle.ff_borders.specs.PlainPlaces.{IsPlainBetween}
-use Rattle.ff_borders.proofs.Tests.{not_false, all_from, on_from, to_on, to_between, parallel_from, to_parallel, to_plain_at, edge_below}
+use Rattle.ff_borders.proofs.Tests.{on_from, to_on, to_between, parallel_from, to_parallel, to_plain_at, edge_below}
 use Rattle.ff_borders.proofs.Steps.{long}
 use Rattle.ff_borders.proofs.Parallels.{slant-cross, leads-side, dot-back}
 

@@ -3,6 +3,7 @@
 use Rattle.std.proofs.Common.{◌≡◌, ℕ, ◌+◌, ◌<◌, ◌==◌, inl, inr, refl, arith, ◌*ℤ◌, Bool, true, false, IsTrue, List, length}
 use Rattle.std.proofs.lemmas.Int.{ints}
 use Rattle.std.proofs.lemmas.Bool.{eqb-true, eqb-false}
+use Rattle.ff_basics.proofs.Tests.{not_false, not_true}
 use Rattle.ff_whole.specs.declared.places.Place.{Place}
 use Rattle.ff_whole.specs.Convex.{point_at}
 use Rattle.ff_whole.proofs.Signs.{pos-mul}
@@ -18,7 +19,7 @@ use Rattle.ff_types.specs.Covering.{is_on_ring}
 use Rattle.ff_types.specs.FoldedPatterns.{IsFoldedPattern}
 use Rattle.ff_types.proofs.CreaseOverlap.{Listed}
 use Rattle.ff_borders.specs.RingEdges.{RingEdgesDontCross, FacesMeetOnce}
-use Rattle.ff_borders.proofs.Tests.{by_test, not_true, not_false, bounds_from, between_from, plain_on, ring_edge}
+use Rattle.ff_borders.proofs.Tests.{by_test, bounds_from, between_from, plain_on, ring_edge}
 use Rattle.ff_borders.proofs.Steps.{from_listed, to_listed, kept, long, left_goes, right_goes}
 use Rattle.ff_borders.proofs.Weights.{HaveCommon, common}
 use Rattle.ff_borders.proofs.Lying.{ring_faces_lie_aside}

@@ -5,6 +5,7 @@ use lib.IntN.{neg_ℤ, *ℤ-zero}
 use Rattle.std.specs.List.{All}
 use Rattle.std.proofs.lemmas.Int.{ints}
 use Rattle.std.proofs.lemmas.List.Elements.{All-nil, All-cons, All-head, All-tail, All-contains}
+use Rattle.ff_basics.proofs.Tests.{both_of, of_both}
 use Rattle.ff_whole.specs.declared.points.Pt.{Pt}
 use Rattle.ff_whole.specs.declared.lines.Line.{Line}
 use Rattle.ff_whole.specs.declared.places.Place.{Place}
@@ -33,7 +34,7 @@ use Rattle.ff_types.proofs.FewFaces.{inside_face}
 use Rattle.ff_types.proofs.FoldedOverlap.{goes_step}
 use Rattle.ff_borders.specs.PlainPlaces.{EdgesHavePlain, PartsInsideHavePlain, SegmentsHavePlain}
 use Rattle.ff_borders.specs.Running.{IsOnInside, InsideByOnePlace, IsBetweenBoth, SharingByOnePlace, SharingAgrees, PlainPlacesTell, NoneInsideOwn, SharingHaveNoCommon}
-use Rattle.ff_borders.proofs.Tests.{both_of, of_both, bounds_from, on_from, to_on, between_from, to_between, parallel_from, to_parallel}
+use Rattle.ff_borders.proofs.Tests.{bounds_from, on_from, to_on, between_from, to_between, parallel_from, to_parallel}
 use Rattle.ff_borders.proofs.Steps.{step_line, signed-line, long, left_goes, right_goes}
 use Rattle.ff_borders.proofs.Parallels.{slant-cross, leads-side, signed-zero}
 use Rattle.ff_borders.proofs.Beside.{map_in}

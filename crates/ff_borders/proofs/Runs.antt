@@ -5,6 +5,8 @@ use lib.IntN.{neg_ℤ}
 use Rattle.std.specs.Prelude.{int_le}
 use Rattle.std.specs.List.{list_all, Contains}
 use Rattle.std.proofs.lemmas.Int.{by_lt_z}
+use Rattle.ff_basics.proofs.Lists.{all_from}
+use Rattle.ff_basics.proofs.Tests.{at_most_from, le_from, same_truth, to_at_most, to_le}
 use Rattle.ff_whole.specs.declared.points.Pt.{Pt}
 use Rattle.ff_whole.specs.declared.places.Place.{Place}
 use Rattle.ff_whole.specs.Points.{minus, dot, cross}
@@ -23,7 +25,7 @@ use Rattle.ff_types.specs.Borders.{is_on, is_between, are_parallel, is_plain_at}
 use Rattle.ff_types.specs.Covering.{lies_left, lies_right}
 use Rattle.ff_types.specs.FoldedPatterns.{IsFoldedPattern}
 use Rattle.ff_borders.specs.Lying.{SidesAgree, OneSideAgrees, EdgesRunAlong}
-use Rattle.ff_borders.proofs.Tests.{le_from, to_le, at_most_from, to_at_most, all_from, same_truth, on_from, parallel_from, to_parallel, plain_on, to_plain_at, edge_below}
+use Rattle.ff_borders.proofs.Tests.{on_from, parallel_from, to_parallel, plain_on, to_plain_at, edge_below}
 use Rattle.ff_borders.proofs.Steps.{long}
 use Rattle.ff_borders.proofs.Parallels.{slant-cross, leads-side, leads-inner, both_parallel}
 

@@ -1,6 +1,7 @@
 -- The terms where two edges share a segment.
 use Rattle.std.proofs.Common.{◌≡◌, ◌≢◌, ℕ, ◌<◌, ◌⊎◌, inl, inr, refl, sym, subst, Bool, true, IsTrue, List, [], ◌∷◌, length}
 use Rattle.std.specs.List.{list_all}
+use Rattle.ff_basics.proofs.Tests.{both_of, either_of}
 use Rattle.ff_whole.specs.declared.places.Place.{Place}
 use Rattle.ff_types.specs.declared.patterns.Pattern.{Pattern}
 use Rattle.ff_types.specs.declared.patterns.Mark.TheVariants.{B}
@@ -15,7 +16,7 @@ use Rattle.ff_types.specs.Cites.{is_folded_edge, is_flat_edge, lesser, greater, 
 use Rattle.ff_types.specs.Terms.{matching, opposed}
 use Rattle.ff_types.specs.FoldedPatterns.{IsFoldedPattern}
 use Rattle.ff_borders.specs.Terms.{IsOverlapping}
-use Rattle.ff_borders.proofs.Tests.{both_of, either_of, on_ring_edge}
+use Rattle.ff_borders.proofs.Tests.{on_ring_edge}
 use Rattle.ff_borders.proofs.TwoSides.{lesser_bounds, greater_bounds}
 use Rattle.ff_borders.proofs.Lying.{flat_faces_part, folded_faces_meet}
 use Rattle.ff_borders.proofs.Running.{sharing_have_no_common, segments_have_plain}

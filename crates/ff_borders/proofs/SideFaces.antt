@@ -1,6 +1,7 @@
 -- Beside a plain border place, on either side, is a place inside every face that covers that side.
 use Rattle.std.proofs.Common.{◌≡◌, ◌≢◌, ℕ, suc, ◌<◌, inl, inr, refl, sym, ◌∙◌, ap, subst, arith, pos, ◌<ℤ◌, ◌≤ℤ◌, Bool, true, ◌&&◌, IsTrue, List, [], ◌∷◌, length}
 use lib.IntN.{neg_ℤ}
+use Rattle.ff_basics.proofs.Tests.{both_of, either_of, of_both}
 use Rattle.ff_whole.specs.declared.points.Pt.{Pt}
 use Rattle.ff_whole.specs.declared.places.Place.{Place}
 use Rattle.ff_whole.specs.Points.{minus, cross}
@@ -29,7 +30,7 @@ use Rattle.ff_types.proofs.FewFaces.{inside_face}
 use Rattle.ff_types.proofs.FoldedEdges.{ends_apart}
 use Rattle.ff_types.proofs.FoldedOverlap.{inside_step}
 use Rattle.ff_borders.specs.SideFaces.{SidesHavePlaces, SideFacesOverlap, SideFacesHaveCommon}
-use Rattle.ff_borders.proofs.Tests.{both_of, of_both, either_of, on_from, between_from, parallel_from, plain_on, ring_edge}
+use Rattle.ff_borders.proofs.Tests.{on_from, between_from, parallel_from, plain_on, ring_edge}
 use Rattle.ff_borders.proofs.Steps.{step_line, depth-line, long, step_left, step_wide}
 use Rattle.ff_borders.proofs.Parallels.{slant-cross, height-direction}
 use Rattle.ff_borders.proofs.RingEdges.{ends_listed}

@@ -4,6 +4,7 @@ use Rattle.std.proofs.Common.{◌≡◌, ℕ, ◌<◌, refl, sym, ◌∙◌, ap,
 use lib.IntN.{neg_ℤ}
 use Rattle.std.proofs.lemmas.Int.{ints}
 use Rattle.std.proofs.lemmas.List.{length-map}
+use Rattle.std.proofs.lemmas.Option.{same_Some}
 use Rattle.ff_whole.specs.declared.points.Pt.{Pt}
 use Rattle.ff_whole.specs.declared.places.Place.{Place}
 use Rattle.ff_whole.specs.declared.lines.Line.{Line}
@@ -81,9 +82,6 @@ same_shape scale up p q r u v w p' q' r' u' v' w' a b c d e f k =
     (subst (λ z. KeepsShape scale up p q r z v' w') d
     (subst (λ z. KeepsShape scale up p q r u z w') e
     (subst (λ z. KeepsShape scale up p q r u v z) f k)))))
-
-some_is : (x y : ℕ) → Some x ≡ Some y → x ≡ y
-some_is x y e = cc
 
 module _ {pattern : Pattern} {faces : Faces} {folded : Folded}
     (h : IsFoldedPattern pattern faces folded) where

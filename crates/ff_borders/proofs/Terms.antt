@@ -1,5 +1,6 @@
 -- The terms of a constraint that holds are different pairs of overlapping faces.
 use Rattle.std.proofs.Common.{◌≢◌, ℕ, ◌<◌, inl, inr, subst, arith, ◌&&◌, IsTrue, length}
+use Rattle.ff_basics.proofs.Tests.{both_of}
 use Rattle.ff_whole.specs.declared.places.Place.{Place}
 use Rattle.ff_types.specs.declared.patterns.Pattern.{Pattern}
 use Rattle.ff_types.specs.declared.patterns.Mark.TheVariants.{B}
@@ -15,7 +16,6 @@ use Rattle.ff_types.specs.Cites.{Holds, is_folded_edge, is_flat_edge, lesser, gr
 use Rattle.ff_types.specs.Terms.{terms_of}
 use Rattle.ff_types.specs.FoldedPatterns.{IsFoldedPattern}
 use Rattle.ff_borders.specs.Terms.{IsOverlapping, TermsOverlap, TermsDiffer, CreaseFacesOverlap}
-use Rattle.ff_borders.proofs.Tests.{both_of}
 use Rattle.ff_borders.proofs.TwoSides.{folded_edge, flat_edge, folded_inner, flat_inner, not_both_marks, two_faces}
 use Rattle.ff_borders.proofs.Lying.{folded_faces_meet}
 use Rattle.ff_borders.proofs.Running.{edges_have_plain}

@@ -6,6 +6,9 @@ use Rattle.std.specs.Ordering.{int_eq}
 use Rattle.std.proofs.lemmas.Int.{ints}
 use Rattle.std.proofs.lemmas.Bool.{false≢true, eqb-true, lt-ltb, ltb-true}
 use Rattle.std.proofs.lemmas.Bool.Decides.{Decides-int_eq}
+use Rattle.ff_basics.proofs.Memberships.{by_member, first_member, in_range, later_member, no_member, range_in}
+use Rattle.ff_basics.proofs.Tests.{at_most_from, both_of, either_of, eq_from, le_from, lt_from, not_false, not_true, of_both, of_first, of_second, same_truth, to_at_most, to_eq, to_le, to_lt}
+use Rattle.ff_basics.proofs.Lists.{all_at, all_from, some_at, some_from}
 use Rattle.ff_whole.specs.declared.places.Place.{Place}
 use Rattle.ff_whole.specs.Places.{height, past, slant}
 use Rattle.ff_whole.proofs.OnEdges.{IsOn}
@@ -13,101 +16,16 @@ use Rattle.ff_whole.proofs.Alongs.{IsBetween}
 use Rattle.ff_types.specs.Sheets.{Sheet, edges_of, faces_of, tail, head, line_of, left_face, right_face, is_some_of, bounds}
 use Rattle.ff_types.specs.Borders.{is_on, is_between, are_parallel, is_plain_at, IsPlainBorder}
 use Rattle.ff_types.specs.Covering.{is_on_ring}
-use Rattle.ff_types.proofs.Memberships.{no_member, by_member, first_member, later_member, in_range, range_in}
 
 -- ---- tests
-
-pub both_of : (a b : Bool) → IsTrue (a && b) → IsTrue a × IsTrue b
-both_of true b t = (refl, t)
-both_of false b t = absurd (false≢true t)
-
-pub of_both : (a b : Bool) → IsTrue a → IsTrue b → IsTrue (a && b)
-of_both true b s t = t
-of_both false b s t = absurd (false≢true s)
-
-pub either_of : (a b : Bool) → IsTrue (a || b) → IsTrue a ⊎ IsTrue b
-either_of true b t = inl refl
-either_of false b t = inr t
-
-pub of_first : (a b : Bool) → IsTrue a → IsTrue (a || b)
-of_first true b t = refl
-of_first false b t = absurd (false≢true t)
-
-pub of_second : (a b : Bool) → IsTrue b → IsTrue (a || b)
-of_second true b t = refl
-of_second false b t = t
 
 pub by_test {ℓ} : {P : Type ℓ} (b : Bool) → (IsTrue b → P) → (b ≡ false → P) → P
 by_test true f g = f refl
 by_test false f g = g refl
 
-pub not_true : (b : Bool) → (IsTrue b → ⊥) → b ≡ false
-not_true true f = absurd (f refl)
-not_true false f = refl
-
-pub not_false : (b : Bool) → b ≡ false → IsTrue b → ⊥
-not_false b e t = false≢true (sym e ∙ t)
-
-pub same_truth : (a b : Bool) → (IsTrue a → IsTrue b) → (IsTrue b → IsTrue a) → a ≡ b
-same_truth true true f g = refl
-same_truth true false f g = sym (f refl)
-same_truth false true f g = g refl
-same_truth false false f g = refl
-
 -- ---- tests of numbers
 
-pub lt_from : (z : ℤ) → IsTrue (int_lt (pos 0) z) → pos 0 <ℤ z
-lt_from z t = omega (arith, ints, t)
-
-pub to_lt : (z : ℤ) → pos 0 <ℤ z → IsTrue (int_lt (pos 0) z)
-to_lt z h = grind (arith, ints)
-
-pub le_from : (z : ℤ) → IsTrue (int_le (pos 0) z) → pos 0 ≤ℤ z
-le_from z t = omega (arith, ints, t)
-
-pub to_le : (z : ℤ) → pos 0 ≤ℤ z → IsTrue (int_le (pos 0) z)
-to_le z h = grind (arith, ints)
-
-pub at_most_from : (z : ℤ) → IsTrue (int_le z (pos 0)) → z ≤ℤ pos 0
-at_most_from z t = omega (arith, ints, t)
-
-pub to_at_most : (z : ℤ) → z ≤ℤ pos 0 → IsTrue (int_le z (pos 0))
-to_at_most z h = grind (arith, ints)
-
-pub eq_from : (z : ℤ) → IsTrue (int_eq z (pos 0)) → z ≡ pos 0
-eq_from z t = (Decides-int_eq z (pos 0)).0 t
-
-pub to_eq : (z : ℤ) → z ≡ pos 0 → IsTrue (int_eq z (pos 0))
-to_eq z h = (Decides-int_eq z (pos 0)).1 h
-
 -- ---- tests of lists
-
-pub all_from : {A : Type 0} (p : A → Bool) (l : List A) → ((x : A) → Contains l x → IsTrue (p x))
-    → IsTrue (list_all p l)
-all_from p [] f = refl
-all_from p (y ∷ l) f = of_both (p y) (list_all p l) (f y (first_member y l y refl))
-    (all_from p l (λ x m. f x (later_member y l x m)))
-
-pub all_at : {A : Type 0} (p : A → Bool) (l : List A) → IsTrue (list_all p l) → (x : A) → Contains l x
-    → IsTrue (p x)
-all_at p [] t x c = absurd (no_member x c)
-all_at p (y ∷ l) t x c = by_member y l x (λ e. subst (λ z. IsTrue (p z)) e (both_of (p y) (list_all p l) t).0)
-    (λ n. all_at p l (both_of (p y) (list_all p l) t).1 x n) c
-
-pub some_at : {A : Type 0} (p : A → Bool) (l : List A) → IsTrue (list_any p l)
-    → (x : A) × Contains l x × IsTrue (p x)
-some_at p [] t = absurd (false≢true t)
-some_at p (y ∷ l) t = elim (either_of (p y) (list_any p l) t) [
-  | inl u ↦ (y, first_member y l y refl, u)
-  | inr u ↦ let r = some_at p l u in (r.0, later_member y l r.0 r.1, r.2)
-]
-
-pub some_from : {A : Type 0} (p : A → Bool) (l : List A) (x : A) → Contains l x → IsTrue (p x)
-    → IsTrue (list_any p l)
-some_from p [] x c t = absurd (no_member x c)
-some_from p (y ∷ l) x c t = by_member y l x
-    (λ e. of_first (p y) (list_any p l) (subst (λ z. IsTrue (p z)) (sym e) t))
-    (λ n. of_second (p y) (list_any p l) (some_from p l x n t)) c
 
 -- ---- edges and faces by number
 

@@ -3,6 +3,7 @@ use Rattle.std.proofs.Common.{◌≡◌, ◌≢◌, ℕ, ◌<◌, ◌≤◌, ◌
 use Rattle.std.specs.Prelude.{min, max}
 use Rattle.std.proofs.Math.Nat.{max-eq_left, max-eq_right, min-eq_left, min-eq_right}
 use Rattle.std.proofs.lemmas.Bool.{false≢true, cases_lt}
+use Rattle.ff_basics.proofs.Tests.{both_of}
 use Rattle.ff_types.specs.declared.patterns.Pattern.{Pattern}
 use Rattle.ff_types.specs.declared.patterns.EdgeEnds.{EdgeEnds}
 use Rattle.ff_types.specs.declared.patterns.Mark.{Mark}
@@ -18,7 +19,7 @@ use Rattle.ff_types.specs.Sheets.{Sheet, sheet_of, mark_of, left_face, right_fac
 use Rattle.ff_types.specs.Cites.{is_flat, is_flat_edge, is_folded_edge, face_or, lesser, greater}
 use Rattle.ff_types.specs.FoldedPatterns.{IsFoldedPattern}
 use Rattle.ff_borders.specs.Folded.{AreBeside, InnerEdgesHaveTwoFaces}
-use Rattle.ff_borders.proofs.Tests.{both_of, to_bounds, below_from}
+use Rattle.ff_borders.proofs.Tests.{to_bounds, below_from}
 use Rattle.ff_borders.proofs.Steps.{left_goes, right_goes, not_back}
 
 -- ---- marks

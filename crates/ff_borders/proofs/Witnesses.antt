@@ -4,6 +4,9 @@ use Rattle.std.specs.Prelude.{int_lt, int_le}
 use Rattle.std.specs.List.{list_all, list_any, All, Contains}
 use Rattle.std.proofs.lemmas.List.{get_or_default}
 use Rattle.std.proofs.lemmas.List.Elements.{All-head, All-tail}
+use Rattle.ff_basics.proofs.Tests.{both_of, le_from, lt_from, of_both}
+use Rattle.ff_basics.proofs.Memberships.{no_member}
+use Rattle.ff_basics.proofs.Lists.{all_at, each_from, some_at}
 use Rattle.ff_whole.specs.declared.places.Place.{Place}
 use Rattle.ff_whole.specs.Places.{IsPlace, height}
 use Rattle.ff_whole.proofs.Sums.{total_place, left-total}
@@ -21,18 +24,14 @@ use Rattle.ff_types.specs.Borders.{is_on}
 use Rattle.ff_types.specs.Segments.{HasEdgeInside}
 use Rattle.ff_types.specs.FoldedPatterns.{IsFoldedPattern}
 use Rattle.ff_types.proofs.FoldedOverlap.{goes_step}
-use Rattle.ff_types.proofs.Memberships.{no_member}
 use Rattle.ff_borders.specs.Running.{WitnessedHold}
-use Rattle.ff_borders.proofs.Tests.{both_of, of_both, lt_from, le_from, all_at, some_at, below_from, on_from, to_on}
+use Rattle.ff_borders.proofs.Tests.{below_from, on_from, to_on}
 use Rattle.ff_borders.proofs.Steps.{step_line, depth-line}
 use Rattle.ff_borders.proofs.TwoSides.{folded_edge, flat_edge}
 use Rattle.ff_borders.proofs.Middles.{middle_place, on_middle, inside_from}
 use Rattle.ff_borders.proofs.Running.{inside_by_one_place}
 
 -- ---- sums of places
-
-all_of_members : {A : Type 0} (P : A → Type 0) (xs : List A) → ((x : A) → Contains xs x → P x) → All P xs
-all_of_members P xs f k d l = f (get_or xs k d) (k, l, get_or_default xs k (get_or xs k d) d l)
 
 total_is_place : (p : Place) (qs : List Place) → All IsPlace (p ∷ qs) → IsPlace (total_place p qs)
 total_is_place p [] h = All-head IsPlace p [] h
@@ -56,7 +55,7 @@ module _ (g : Sheet) (f : ℕ) (places : List Place) (x y : ℕ)
       (list_any (λ s. int_lt (pos 0) (depth g f s (x, y))) places) t
 
   none_right : All (λ s. pos 0 ≤ℤ height (step_line g f (x, y)) s) places
-  none_right = all_of_members (λ s. pos 0 ≤ℤ height (step_line g f (x, y)) s) places
+  none_right = each_from (λ s. pos 0 ≤ℤ height (step_line g f (x, y)) s) places
       (λ s m. subst (λ z. pos 0 ≤ℤ z) (depth-line g f s x y)
       (le_from (depth g f s (x, y))
       (all_at (λ s. int_le (pos 0) (depth g f s (x, y))) places parts.0 s m)))

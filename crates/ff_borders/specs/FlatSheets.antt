@@ -15,6 +15,7 @@ pub record IsOnlyFlat (g : Sheet) (e : ℕ) : Type 0 where
   pub flat : IsTrue (is_flat_edge g e)
   pub others : (k : ℕ) → k < length g.edges → k ≢ e → mark_of g k ≡ B
 
+-- nothing lies above anything
 abbrev pub none_above : ℕ → ℕ → Bool
 none_above f h = false
 

@@ -11,6 +11,7 @@ use Rattle.ff_types.specs.Cites.{is_folded_edge, is_flat_edge, lesser, greater, 
 abbrev pub IsLeftAlone : Sheet → ℕ → ℕ → Type 0
 IsLeftAlone g e f = IsTrue (lies_left g e f) × (lies_right g e f ≡ false)
 
+-- the face lies on the right side alone
 abbrev pub IsRightAlone : Sheet → ℕ → ℕ → Type 0
 IsRightAlone g e f = IsTrue (lies_right g e f) × (lies_left g e f ≡ false)
 

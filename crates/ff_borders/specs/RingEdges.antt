@@ -21,10 +21,12 @@ pub record IsOnlyEdge (g : Sheet) (f : ℕ) (s : Place) (k : ℕ) : Type 0 where
   pub of_face : IsTrue (bounds g k f)
   pub only : (l : ℕ) → l < length g.edges → IsTrue (is_on g l s) → IsTrue (bounds g l f) → l ≡ k
 
+-- the place is inside the face, or on exactly one of its ring edges, or neither
 abbrev pub MeetsOnce : Sheet → ℕ → Place → Type 0
 MeetsOnce g f s = (IsTrue (is_inside g f s) × (is_on_ring g f s ≡ false))
     ⊎ ((((k : ℕ) × IsOnlyEdge g f s k) × (is_inside g f s ≡ false))
     ⊎ ((is_inside g f s ≡ false) × (is_on_ring g f s ≡ false)))
 
+-- so each face meets each plain border place
 abbrev pub FacesMeetOnce : Sheet → Type 0
 FacesMeetOnce g = (e f : ℕ) (s : Place) → IsPlainBorder g e s → MeetsOnce g f s

@@ -13,6 +13,7 @@ HasPlacesBeside g e s =
     ((t : Place) × IsPlace t × ((f : ℕ) → IsTrue (covers_left g e s f) → IsTrue (is_inside g f t)))
     × ((t : Place) × IsPlace t × ((f : ℕ) → IsTrue (covers_right g e s f) → IsTrue (is_inside g f t)))
 
+-- each plain border place has places beside it
 abbrev pub SidesHavePlaces : Sheet → Type 0
 SidesHavePlaces g = (e : ℕ) (s : Place) → IsPlainBorder g e s → HasPlacesBeside g e s
 

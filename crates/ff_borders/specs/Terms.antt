@@ -25,6 +25,7 @@ pub record IsOverlapping (g : Sheet) (p : ℕ × ℕ) : Type 0 where
   pub rises : (in_order p.0 p.1).0 < (in_order p.0 p.1).1
   pub ordered : Overlap g (in_order p.0 p.1).0 (in_order p.0 p.1).1
 
+-- the terms of a cite that holds are overlapping pairs
 abbrev pub TermsOverlap : Sheet → Type 0
 TermsOverlap g = (c : Cite) → Holds g c → (j : ℕ) → j < length (terms_of g c)
     → IsOverlapping g (pair_at (terms_of g c) j)

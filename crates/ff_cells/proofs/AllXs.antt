@@ -6,12 +6,12 @@ use Rattle.std.proofs.lemmas.Int.{ints}
 use Rattle.std.proofs.lemmas.List.{get_or_default}
 use Rattle.std.specs.List.Sorted.{IsSorted}
 use Rattle.std.proofs.lemmas.List.Sorted.{Contains-permutation, IsPermutation-sym}
+use Rattle.ff_basics.proofs.Memberships.{first_member, in_map, later_member}
 use Rattle.ff_whole.specs.declared.points.Pt.{Pt}
 use Rattle.ff_whole.specs.declared.sizes.TheConstants.{POINT_SIZE}
 use Rattle.ff_whole.specs.Sizes.{IsBelow}
 use Rattle.ff_whole.specs.Points.{IsNear, origin}
 use Rattle.ff_whole.specs.Convex.{point_at}
-use Rattle.ff_types.proofs.Memberships.{in_map, first_member, later_member}
 use Rattle.ff_cells.specs.Xs.{AreXs}
 use Rattle.ff_cells.proofs.Reached.{not_lower}
 

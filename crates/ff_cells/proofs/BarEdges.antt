@@ -5,6 +5,7 @@ use lib.IntN.{neg_ℤ, *ℤ-zero}
 use Rattle.std.specs.Ordering.{int_eq}
 use Rattle.std.proofs.lemmas.Int.{ints}
 use Rattle.std.proofs.lemmas.Bool.Decides.{Decides-int_eq}
+use Rattle.ff_basics.proofs.Tests.{both_of}
 use Rattle.ff_whole.proofs.Formulas.{point_e, point_env, place_e, place_env, line_e, line_env, through_e, height_e, past_e, slant_e, dot_e, minus_e}
 use Rattle.ff_whole.proofs.Ring.{var, num, ◌⊕◌, ◌⊖◌, ◌⊗◌, opp, solve}
 use Rattle.ff_whole.proofs.Signs.{linear, pos-mul, nonneg-mul, nonneg_from_mul, pos_from_mul, neg_from_mul, zero-mul, square_pos, square_nonneg, zero_product}
@@ -18,7 +19,6 @@ use Rattle.ff_whole.specs.declared.places.Place.{Place}
 use Rattle.ff_whole.specs.Meeting.{rise}
 use Rattle.ff_types.specs.Sheets.{Sheet, tail, head, line_of}
 use Rattle.ff_types.specs.Borders.{is_on}
-use Rattle.ff_types.proofs.Computing.{both}
 use Rattle.ff_cells.specs.declared.bars.Bar.{Bar}
 use Rattle.ff_cells.specs.Gap.{run, spot}
 use Rattle.ff_cells.specs.SlabCells.{PassesBelow, PassesAbove}
@@ -96,8 +96,8 @@ to_le a b h = grind (arith, ints, h)
 
 pub from_on : (g : Sheet) (e : ℕ) (s : Place) → IsTrue (is_on g e s) → IsOn (tail g e) (head g e) s
 from_on g e s t =
-    let a = both _ (int_le (pos 0) (past (head g e) (tail g e) s)) t in
-    let b = both (int_eq (height (line_of g e) s) (pos 0)) (int_le (pos 0) (past (tail g e) (head g e) s)) a.0
+    let a = both_of _ (int_le (pos 0) (past (head g e) (tail g e) s)) t in
+    let b = both_of (int_eq (height (line_of g e) s) (pos 0)) (int_le (pos 0) (past (tail g e) (head g e) s)) a.0
     in
     record {
       on = (Decides-int_eq (height (line_of g e) s) (pos 0)).0 b.0;

@@ -4,6 +4,7 @@ use Rattle.std.specs.List.{All, Contains}
 use Rattle.std.proofs.lemmas.List.{length-map, get_or_default}
 use Rattle.std.proofs.lemmas.List.Sums.{sum_by-cons}
 use Rattle.std.proofs.lemmas.Bool.Decides.{nat_tests}
+use Rattle.ff_basics.proofs.Memberships.{first_member, later_member}
 use Rattle.ff_whole.proofs.Signs.{linear}
 use Rattle.ff_whole.specs.Places.{place_of}
 use Rattle.ff_whole.specs.Convex.{point_at}
@@ -20,7 +21,6 @@ use Rattle.ff_types.specs.declared.faces.Folded.{Folded}
 use Rattle.ff_types.specs.Sheets.{Sheet, sheet_of}
 use Rattle.ff_types.specs.Inside.{is_inside, over}
 use Rattle.ff_types.specs.FoldedPatterns.{IsFoldedPattern}
-use Rattle.ff_types.proofs.Memberships.{first_member, later_member}
 use Rattle.ff_types.specs.declared.limits.TheConstants.{MOST_CELLS, MOST_ENTRIES}
 use Rattle.ff_cells.specs.declared.bars.Bar.{Bar}
 use Rattle.ff_cells.specs.declared.cell.Cell.{Cell}
@@ -34,7 +34,7 @@ use Rattle.ff_cells.specs.Stopped.{AreStopped}
 use Rattle.ff_cells.specs.Merged.{firsts}
 use Rattle.ff_cells.specs.Tally.{capped, entries_of, IsTally}
 use Rattle.ff_cells.specs.Xs.{AreXs}
-use Rattle.ff_cells.specs.SlabCells.{IsBefore, IsNotAfter, IsInCell, StandInCells, AreOneEach, entries, IsSlabCell, AreCells, HasFewCells, AreNoCells}
+use Rattle.ff_cells.specs.SlabCells.{IsBefore, IsNotAfter, IsInCell, StandInCells, AreOneEach, entries, IsSlabCell, AreCells, HasFewCells, WhyNoCells}
 use Rattle.ff_cells.proofs.Cuts.{run-opposite, run-trans_first, run-trans_last}
 use Rattle.ff_cells.proofs.Strips.{run_to, run_from}
 use Rattle.ff_cells.proofs.Faces.{IsStep}
@@ -101,7 +101,7 @@ module _ {pattern : Pattern} {faces : FacesRow} {folded : Folded} (h : IsFoldedP
   }
 
   -- too many cells
-  pub too_many_cells : (why : No) → AreStopped bars xs why → AreNoCells g why
+  pub too_many_cells : (why : No) → AreStopped bars xs why → WhyNoCells g why
   too_many_cells NoMemory s = tt
   too_many_cells (Refused r) (is, (cs, begun, many)) =
       let b = sweeps.begun d xs_are cs begun in
@@ -273,8 +273,8 @@ module _ {pattern : Pattern} {faces : FacesRow} {folded : Folded} (h : IsFoldedP
     -- too many entries
     pub too_many_entries : (found : Found) → IsTally cs found → found.count ≤ MOST_CELLS
         → MOST_ENTRIES < found.entries → (why : No) → why ≡ Refused (TooMany Entries MOST_ENTRIES)
-        → AreNoCells g why
-    too_many_entries found t few many why is = subst (AreNoCells g) (sym is) (inr (
+        → WhyNoCells g why
+    too_many_entries found t few many why is = subst (WhyNoCells g) (sym is) (inr (
       refl,
       (
         map mid cs,

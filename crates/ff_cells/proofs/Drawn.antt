@@ -5,6 +5,8 @@ use Rattle.std.specs.Prelude.{int_lt, T}
 use Rattle.std.specs.List.{Contains}
 use Rattle.std.proofs.lemmas.Int.{by_lt_z}
 use Rattle.std.proofs.lemmas.Bool.{lt-ltb, ltb-true, eqb-true}
+use Rattle.ff_basics.proofs.Lists.{all_from}
+use Rattle.ff_basics.proofs.Tests.{both_of, either_of}
 use Rattle.ff_whole.proofs.Signs.{linear}
 use Rattle.ff_whole.proofs.Turns.{height-back}
 use Rattle.ff_whole.proofs.Searches.{search}
@@ -29,7 +31,6 @@ use Rattle.ff_types.specs.Foldings.{is_up, signed}
 use Rattle.ff_types.specs.Sheets.{Sheet, sheet_of, tail, head, line_of}
 use Rattle.ff_types.specs.Inside.{is_inside, steps, depth}
 use Rattle.ff_types.specs.FoldedPatterns.{IsFoldedPattern}
-use Rattle.ff_types.proofs.Computing.{both, either}
 use Rattle.ff_types.proofs.PlainSheets.{some_joins}
 use Rattle.ff_types.proofs.FoldedEdges.{tail_below, head_below, ends_apart}
 use Rattle.ff_types.proofs.FoldedOverlap.{inside_step, step_goes}
@@ -39,7 +40,7 @@ use Rattle.ff_cells.specs.Sheet.{AreFaceBars, IsInside}
 use Rattle.ff_cells.specs.Steps.{way_of, IsBarOf, HasBar, AreBars}
 use Rattle.ff_cells.proofs.BarEdges.{AreEnds, to_on}
 use Rattle.ff_cells.proofs.Faces.{step_line, IsStep, IsTurned, face_turned, face_bars, ring_some}
-use Rattle.ff_cells.proofs.FaceLists.{make_all, off_edge}
+use Rattle.ff_cells.proofs.FaceLists.{off_edge}
 
 -- the line is that of the edge, in one direction or the other
 abbrev pub IsLineOf : Sheet → ℕ → Line → Type 0
@@ -85,11 +86,11 @@ module _ (g : Sheet) where
   )
     where
       face : f < length g.rings
-      face = ltb-true f (length g.rings) (both _ _ t).0
+      face = ltb-true f (length g.rings) (both_of _ _ t).0
 
   pub to_inside : (f : ℕ) (s : Place) → f < length g.rings → ((l : Line) → IsStep g f l → pos 0 <ℤ height l s)
       → IsTrue (is_inside g f s)
-  to_inside f s lt h = rw (lt-ltb f (length g.rings) lt) (make_all (λ step. int_lt (pos 0) (depth g f s step))
+  to_inside f s lt h = rw (lt-ltb f (length g.rings) lt) (all_from (λ step. int_lt (pos 0) (depth g f s step))
       (steps (ring_at g.rings f)) each)
     where
       deep : (x y : ℕ) → Goes (ring_at g.rings f) x y → pos 0 <ℤ depth g f s (x, y)
@@ -181,13 +182,13 @@ module _ {pattern : Pattern} {faces : FacesRow} {folded : Folded} (h : IsFoldedP
         v = after (ring_at faces.rings f) i
 
         by : (e : ℕ) × (e < length pattern.edges) × IsTrue (joins u v (edge_at pattern.edges e)) → HasEdge f i
-        by (e, lt, t) = elim (either _ _ t) [
-          | inl s ↦ (let p = both _ _ s in record {
+        by (e, lt, t) = elim (either_of _ _ t) [
+          | inl s ↦ (let p = both_of _ _ s in record {
             e = e;
             within = lt;
             ends = inl (ap image (sym (eqb-true _ _ p.0)), ap image (sym (eqb-true _ _ p.1)));
           })
-          | inr s ↦ (let p = both _ _ s in record {
+          | inr s ↦ (let p = both_of _ _ s in record {
             e = e;
             within = lt;
             ends = inr (ap image (sym (eqb-true _ _ p.1)), ap image (sym (eqb-true _ _ p.0)));

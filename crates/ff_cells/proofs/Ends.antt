@@ -20,6 +20,7 @@ use Rattle.ff_cells.proofs.Starts.{starts_below}
 use Rattle.std.specs.Cmp.{int_ranks}
 use Rattle.std.specs.List.Sorted.{IsPermutation, IsSortedBy}
 use Rattle.std.proofs.lemmas.List.Sorted.{Contains-permutation, IsPermutation-sym}
+use Rattle.ff_basics.proofs.Tests.{first_true, second_true, true_and}
 use Rattle.ff_cells.specs.Before.{x_before}
 use Rattle.ff_cells.proofs.Gaps.{gap-slant}
 
@@ -53,26 +54,15 @@ cond-le true false h = absurd (true≢false (sym (h refl)))
 cond-less : (a b : Bool) → a ≡ false → b ≡ true → cond a 1 0 < cond b 1 0
 cond-less a b h k = rw (h, k) (omega arith)
 
-both-left : (a b : Bool) → (a && b) ≡ true → a ≡ true
-both-left true b h = refl
-both-left false b h = h
-
-both-right : (a b : Bool) → (a && b) ≡ true → b ≡ true
-both-right true b h = h
-both-right false b h = absurd (true≢false (sym h))
-
-both : (a b : Bool) → a ≡ true → b ≡ true → (a && b) ≡ true
-both a b h k = rw (h, k) refl
-
 -- a pair that has still to meet right of a place has still to meet right of each place on the left
 keeps : (left right : Place) (k l : Bar) → pos 0 <ℤ left.w → pos 0 <ℤ right.w → pos 0 <ℤ run left right
     → approaches right k l ≡ true → approaches left k l ≡ true
 keeps left right k l hl hr wide h =
-    let a : pos 0 <ℤ gap k.line l.line right = (let t = both-left (int_lt (pos 0) (gap k.line l.line right))
+    let a : pos 0 <ℤ gap k.line l.line right = (let t = first_true (int_lt (pos 0) (gap k.line l.line right))
     (int_lt (slant k.line l.line) (pos 0)) h in omega (arith, ints)) in
-    let s = both-right (int_lt (pos 0) (gap k.line l.line right)) (int_lt (slant k.line l.line) (pos 0)) h in
+    let s = second_true (int_lt (pos 0) (gap k.line l.line right)) (int_lt (slant k.line l.line) (pos 0)) h in
     let c : slant k.line l.line <ℤ pos 0 = omega (arith, ints) in
-    both (int_lt (pos 0) (gap k.line l.line left)) (int_lt (slant k.line l.line) (pos 0))
+    true_and (int_lt (pos 0) (gap k.line l.line left)) (int_lt (slant k.line l.line) (pos 0))
     (yes (pos 0) (gap k.line l.line left) (apart a c)) s
   where
     yes : (a b : ℤ) → a <ℤ b → int_lt a b ≡ true
@@ -88,7 +78,7 @@ keeps left right k l hl hr wide h =
 met : (left right : Place) (k l : Bar) → ClosesAt left right k.line l.line → (approaches left k l ≡ true)
     × (approaches right k l ≡ false)
 met left right k l c = (
-  both (int_lt (pos 0) (gap k.line l.line left)) (int_lt (slant k.line l.line) (pos 0))
+  true_and (int_lt (pos 0) (gap k.line l.line left)) (int_lt (slant k.line l.line) (pos 0))
       (yes (pos 0) (gap k.line l.line left) c.apart) (yes (slant k.line l.line) (pos 0) c.closing),
   none (gap k.line l.line right) c.meets,
 )

@@ -5,12 +5,13 @@ use Rattle.std.specs.List.Sorted.{IsStrictlyIncreasing}
 use Rattle.std.proofs.lemmas.Bool.{false≢true, ltb-true}
 use Rattle.std.proofs.lemmas.List.FromFn.{length-range_with_len, get_or-range_with_len}
 use Rattle.std.proofs.lemmas.List.Kept.{IsStrictlyIncreasing-filter}
+use Rattle.ff_basics.proofs.Memberships.{by_member, filter_in, first_member, in_filter, in_range, later_member, no_member, range_in}
+use Rattle.ff_basics.proofs.Tests.{both_of}
+use Rattle.ff_basics.proofs.Lists.{all_at, all_from, member_some}
 use Rattle.ff_whole.specs.declared.places.Place.{Place}
 use Rattle.ff_types.specs.Sheets.{Sheet, edges_of, faces_of}
 use Rattle.ff_types.specs.Inside.{is_inside, over}
 use Rattle.ff_types.specs.Borders.{is_on}
-use Rattle.ff_types.proofs.Computing.{both}
-use Rattle.ff_types.proofs.Memberships.{by_member, no_member, first_member, later_member, in_filter, filter_in, in_range, range_in}
 use Rattle.ff_cells.specs.FaceSets.{is_off}
 
 -- ---- rising lists
@@ -60,17 +61,6 @@ rising_equal (x ∷ xs) (y ∷ ys) h k s = ap (λ z. z ∷ xs) heads
 
 -- ---- tests of all members
 
-pub all_of : {A : Type 0} (p : A → Bool) (l : List A) → IsTrue (list_all p l) → (x : A) → Contains l x
-    → IsTrue (p x)
-all_of p [] t x c = absurd (no_member x c)
-all_of p (y ∷ l) t x c = by_member y l x (λ e. subst (λ z. IsTrue (p z)) e (both (p y) (list_all p l) t).0)
-    (λ n. all_of p l (both (p y) (list_all p l) t).1 x n) c
-
-pub make_all : {A : Type 0} (p : A → Bool) (l : List A) → ((x : A) → Contains l x → IsTrue (p x))
-    → IsTrue (list_all p l)
-make_all p [] h = refl
-make_all p (y ∷ l) h = rw (h y (first_member y l y refl)) (make_all p l (λ x c. h x (later_member y l x c)))
-
 not_true : (b : Bool) → IsTrue (not b) → IsTrue b → ⊥
 not_true true h t = false≢true h
 not_true false h t = false≢true t
@@ -83,12 +73,12 @@ not_made false h = refl
 
 pub off_edge : (g : Sheet) (s : Place) → IsTrue (is_off g s) → (e : ℕ) → e < length g.edges
     → IsTrue (is_on g e s) → ⊥
-off_edge g s t e lt on = not_true (is_on g e s) (all_of (λ e. not (is_on g e s)) (edges_of g) t e
+off_edge g s t e lt on = not_true (is_on g e s) (all_at (λ e. not (is_on g e s)) (edges_of g) t e
     (range_in 0 (length g.edges) e (omega arith) (omega (arith, lt)))) on
 
 pub off_edges : (g : Sheet) (s : Place) → ((e : ℕ) → e < length g.edges → IsTrue (is_on g e s) → ⊥)
     → IsTrue (is_off g s)
-off_edges g s h = make_all (λ e. not (is_on g e s)) (edges_of g)
+off_edges g s h = all_from (λ e. not (is_on g e s)) (edges_of g)
     (λ e c. not_made (is_on g e s) (h e (let r = (in_range 0 (length g.edges) e c).1 in omega (arith, r))))
 
 pub over_inside : (g : Sheet) (s : Place) (f : ℕ) → Contains (over g s) f → IsTrue (is_inside g f s)
@@ -96,7 +86,7 @@ over_inside g s f c = (in_filter (λ f. is_inside g f s) (faces_of g) f c).1
 
 pub inside_over : (g : Sheet) (s : Place) (f : ℕ) → IsTrue (is_inside g f s) → Contains (over g s) f
 inside_over g s f t = filter_in (λ f. is_inside g f s) (faces_of g) f
-    (range_in 0 (length g.rings) f (omega arith) (let l = ltb-true f (length g.rings) (both _ _ t).0 in
+    (range_in 0 (length g.rings) f (omega arith) (let l = ltb-true f (length g.rings) (both_of _ _ t).0 in
     omega (arith, l))) t
 
 pub over_rising : (g : Sheet) (s : Place) → IsStrictlyIncreasing (over g s)
@@ -114,9 +104,5 @@ pub some_member : (xs : List ℕ) → 0 < length xs → (f : ℕ) × Contains xs
 some_member [] h = absurd (omega (arith, h))
 some_member (x ∷ xs) h = (x, first_member x xs x refl)
 
-pub member_some : (xs : List ℕ) (f : ℕ) → Contains xs f → 0 < length xs
-member_some [] f c = absurd (no_member f c)
-member_some (x ∷ xs) f c = omega arith
-
 pub face_below : (g : Sheet) (f : ℕ) (s : Place) → IsTrue (is_inside g f s) → f < length g.rings
-face_below g f s t = ltb-true f (length g.rings) (both _ _ t).0
+face_below g f s t = ltb-true f (length g.rings) (both_of _ _ t).0

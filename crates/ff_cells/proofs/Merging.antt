@@ -15,9 +15,10 @@ use Rattle.std.proofs.lemmas.List.{get_or_append_left, get_or_push, length_push,
 use Rattle.std.proofs.lemmas.List.Folds.{list_any_at}
 use Rattle.std.proofs.lemmas.List.Elements.{Contains-append_left, Contains-append_right, Contains-append_cases}
 use Rattle.std.proofs.lemmas.List.Sums.{sum_by_push}
+use Rattle.ff_basics.proofs.Memberships.{by_member, first_member, later_member, no_member}
+use Rattle.ff_basics.proofs.Tests.{equal_of}
 use Rattle.ff_whole.specs.declared.places.Place.{Place}
 use Rattle.ff_types.specs.Sheets.{Sheet}
-use Rattle.ff_types.proofs.Memberships.{by_member, no_member, first_member, later_member}
 use Rattle.ff_types.specs.declared.limits.TheConstants.{MOST_CELLS, MOST_ENTRIES}
 use Rattle.ff_cells.specs.declared.cell.Cell.{Cell}
 use Rattle.ff_cells.specs.declared.found.Found.{Found}
@@ -27,11 +28,6 @@ use Rattle.ff_cells.specs.SlabCells.{IsBefore, AreInOrder}
 use Rattle.ff_cells.proofs.Rows.{mid, cells_append, member_of_all}
 
 -- ---- sets among cells
-
-equal_of : (o : Ordering) → is_eq o ≡ true → o ≡ Equal
-equal_of Less h = absurd (false≢true h)
-equal_of Equal h = refl
-equal_of Greater h = absurd (false≢true h)
 
 pub same_is : (xs ys : List ℕ) → are_same xs ys ≡ true → xs ≡ ys
 same_is xs ys h = slice_cmp-IsAntisymmetric nat_cmp-IsAntisymmetric xs ys (equal_of (slice_cmp nat_cmp xs ys) h)

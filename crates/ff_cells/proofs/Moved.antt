@@ -5,6 +5,8 @@ use Rattle.std.specs.List.{All, Contains}
 use Rattle.std.proofs.lemmas.Int.{ints}
 use Rattle.std.proofs.lemmas.Bool.Decides.{Decides-int_eq}
 use Rattle.std.proofs.lemmas.List.Elements.{All-nil, All-cons, All-head, All-tail}
+use Rattle.ff_basics.proofs.Lists.{member_some}
+use Rattle.ff_basics.proofs.Numbers.{below_or_last}
 use Rattle.ff_whole.proofs.Formulas.{line_e, line_env, place_e, place_env, height_e, slant_e}
 use Rattle.ff_whole.proofs.Ring.{var, num, ◌⊕◌, ◌⊖◌, ◌⊗◌, solve}
 use Rattle.ff_whole.proofs.Signs.{linear, by_sign, zero_product}
@@ -24,7 +26,7 @@ use Rattle.ff_cells.specs.SlabCells.{IsOnBorder, IsInCell}
 use Rattle.ff_cells.proofs.BarEdges.{from_on}
 use Rattle.ff_cells.proofs.Faces.{IsStep}
 use Rattle.ff_cells.proofs.Drawn.{IsDrawn, from_inside, to_inside}
-use Rattle.ff_cells.proofs.FaceLists.{off_edges, over_inside, inside_over, over_rising, rising_equal, face_below, some_member, member_some}
+use Rattle.ff_cells.proofs.FaceLists.{off_edges, over_inside, inside_over, over_rising, rising_equal, face_below, some_member}
 
 -- ---- lists of lines, one for each number or each two numbers
 
@@ -35,9 +37,6 @@ row (suc n) f rest = f n ∷ row n f rest
 abbrev grid : ℕ → ℕ → (ℕ → ℕ → Line) → List Line → List Line
 grid zero n f rest = rest
 grid (suc m) n f rest = row n (f m) (grid m n f rest)
-
-below_or_last : (n i : ℕ) → i < suc n → (i < n) ⊎ (i ≡ n)
-below_or_last n i h = grind (arith, h)
 
 module _ (P : Line → Type 0) where
   all_row : (n : ℕ) (f : ℕ → Line) (rest : List Line) → ((i : ℕ) → i < n → P (f i)) → All P rest

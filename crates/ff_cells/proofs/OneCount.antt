@@ -12,12 +12,12 @@ use Rattle.ff_types.specs.Patterns.{edge_at}
 use Rattle.ff_types.specs.Sheets.{Sheet, tail}
 use Rattle.ff_types.specs.Inside.{over}
 use Rattle.ff_types.specs.Borders.{is_on}
-use Rattle.ff_types.proofs.Memberships.{first_member, later_member}
 use Rattle.ff_cells.specs.declared.bars.Bar.{Bar}
 use Rattle.ff_cells.specs.Gap.{run, spot}
 use Rattle.ff_cells.specs.Sheet.{IsOver, IsInside}
 use Rattle.ff_cells.specs.Gap.{opposite}
 use Rattle.std.specs.Prelude.{if◌then◌else◌}
+use Rattle.ff_basics.proofs.Memberships.{first_member, later_member}
 use Rattle.ff_cells.specs.SlabCells.{IsLeftOf, IsBelow, IsInCell, IsBefore, AreInOrder, StandInCells, AreOneEach, entries}
 use Rattle.ff_cells.proofs.Between.{Spanned, between_open}
 use Rattle.ff_cells.proofs.Cuts.{run-opposite, height-opposite}

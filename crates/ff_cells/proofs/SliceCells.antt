@@ -5,6 +5,8 @@ use Rattle.std.specs.List.{All, Contains}
 use Rattle.std.proofs.lemmas.Int.{ints}
 use Rattle.std.proofs.lemmas.Bool.{lt-ltb}
 use Rattle.std.proofs.lemmas.List.{get_or_default}
+use Rattle.ff_basics.proofs.Lists.{all_from}
+use Rattle.ff_basics.proofs.Tests.{of_both, to_le, to_lt}
 use Rattle.ff_whole.proofs.Signs.{linear}
 use Rattle.ff_whole.specs.Places.{height, through, IsPlace}
 use Rattle.ff_whole.specs.Sizes.{IsSmallPlace}
@@ -35,26 +37,13 @@ use Rattle.ff_cells.proofs.Exact as exact
 use Rattle.ff_cells.proofs.BarEdges.{Reaches, on_edge, from_below, from_above, passes_below, passes_above}
 use Rattle.ff_cells.proofs.Faces.{step_line, IsStep}
 use Rattle.ff_cells.proofs.Drawn.{IsDrawn, from_inside, to_inside, depth_height}
-use Rattle.ff_cells.proofs.FaceLists.{make_all, over_inside, inside_over, over_rising, rising_equal, face_below}
+use Rattle.ff_cells.proofs.FaceLists.{over_inside, inside_over, over_rising, rising_equal, face_below}
 use Rattle.ff_cells.proofs.Slices as slices
 use Rattle.ff_cells.proofs.Slices.{IsSlice, HasBorder, run_same, one_place}
-
-two_of : (a b : Bool) → IsTrue a → IsTrue b → IsTrue (a && b)
-two_of true b x y = y
-two_of false b x y = absurd (no x)
-  where
-    no : IsTrue false → ⊥
-    no e = cc
 
 from_test : (b : Bool) → T b → IsTrue b
 from_test true t = refl
 from_test false t = absurd t
-
-is_less : (z : ℤ) → pos 0 <ℤ z → IsTrue (int_lt (pos 0) z)
-is_less z h = from_test (int_lt (pos 0) z) h.lt
-
-is_least : (z : ℤ) → pos 0 ≤ℤ z → IsTrue (int_le (pos 0) z)
-is_least z h = grind (arith, ints, h)
 
 one_of : (a b c : Bool) → (IsTrue a) ⊎ ((IsTrue b) ⊎ (IsTrue c)) → IsTrue (a || (b || (c || false)))
 one_of true b c h = refl
@@ -338,8 +327,8 @@ module _ {g : Sheet} {bars : List Bar} (d : IsDrawn g bars) {left right : Place}
 
   witness_at : (f : ℕ) → Contains cell.faces f → IsTrue (witness_face g
       (h.low_left ∷ h.low_right ∷ h.top ∷ []) f)
-  witness_at f k = two_of _ _ (lt-ltb f (length g.rings) face)
-      (make_all (witness_edge g f (h.low_left ∷ h.low_right ∷ h.top ∷ [])) (steps (ring_at g.rings f)) each)
+  witness_at f k = of_both _ _ (lt-ltb f (length g.rings) face)
+      (all_from (witness_edge g f (h.low_left ∷ h.low_right ∷ h.top ∷ [])) (steps (ring_at g.rings f)) each)
     where
       face : f < length g.rings
       face = ((inside_iff f).0 k).0.1.0
@@ -366,21 +355,21 @@ module _ {g : Sheet} {bars : List Bar} (d : IsDrawn g bars) {left right : Place}
           let a = deep h.low_left x y go in
           let b = deep h.low_right x y go in
           let t = deep h.top x y go in
-          two_of _ _
-          (two_of _ _ (is_least _ (subst (λ z. pos 0 ≤ℤ z) (sym a) w.first))
-          (two_of _ _ (is_least _ (subst (λ z. pos 0 ≤ℤ z) (sym b) w.second))
-          (two_of _ _ (is_least _ (subst (λ z. pos 0 ≤ℤ z) (sym t) w.third)) refl)))
+          of_both _ _
+          (of_both _ _ (to_le _ (subst (λ z. pos 0 ≤ℤ z) (sym a) w.first))
+          (of_both _ _ (to_le _ (subst (λ z. pos 0 ≤ℤ z) (sym b) w.second))
+          (of_both _ _ (to_le _ (subst (λ z. pos 0 ≤ℤ z) (sym t) w.third)) refl)))
           (one_of _ _ _ (elim w.some [
-            | inl o ↦ inl (is_less _ (subst (λ z. pos 0 <ℤ z) (sym a) o))
-            | inr (inl o) ↦ inr (inl (is_less _ (subst (λ z. pos 0 <ℤ z) (sym b) o)))
-            | inr (inr o) ↦ inr (inr (is_less _ (subst (λ z. pos 0 <ℤ z) (sym t) o)))
+            | inl o ↦ inl (to_lt _ (subst (λ z. pos 0 <ℤ z) (sym a) o))
+            | inr (inl o) ↦ inr (inl (to_lt _ (subst (λ z. pos 0 <ℤ z) (sym b) o)))
+            | inr (inr o) ↦ inr (inr (to_lt _ (subst (λ z. pos 0 <ℤ z) (sym t) o)))
           ]))
 
   witnessed : IsWitnessOf g cell.faces (h.low_left ∷ h.low_right ∷ h.top ∷ [])
   witnessed = record {
     are_places = three_of IsPlace h.low_left h.low_right h.top h.corners.first.positive
         h.corners.second.positive third_small.positive;
-    witness = make_all (witness_face g (h.low_left ∷ h.low_right ∷ h.top ∷ [])) cell.faces witness_at;
+    witness = all_from (witness_face g (h.low_left ∷ h.low_right ∷ h.top ∷ [])) cell.faces witness_at;
   }
 
   pub slab_cell : IsSlabCell g cell

@@ -3,6 +3,7 @@ use Rattle.std.proofs.Common.{ℕ, zero, suc, ◌≡◌, ◌⊎◌, inl, inr, �
 use Rattle.std.proofs.lemmas.List.{get_or_default}
 use Rattle.std.specs.List.{Contains}
 use Rattle.std.proofs.lemmas.List.Elements.{Contains-append_left, Contains-append_right, Contains-append_cases}
+use Rattle.ff_basics.proofs.Numbers.{last_or}
 use Rattle.ff_whole.specs.declared.points.Pt.{Pt}
 use Rattle.ff_types.specs.Faces.{ring_at}
 use Rattle.ff_types.specs.Foldings.{is_up}
@@ -11,9 +12,6 @@ use Rattle.ff_cells.specs.Steps.{IsBarOf, AddsBar, step_at, HasBar, AddsSteps, A
 
 no_less : (i : ℕ) → i < 0 → ⊥
 no_less i h = omega (arith, h)
-
-below_or_at : (i n : ℕ) → i < n + 1 → (i < n) ⊎ (i ≡ n)
-below_or_at i n h = grind (arith, h)
 
 only_one : {X : Type 0} (x y : X) → Contains (x ∷ []) y → x ≡ y
 only_one x y (zero, lt, e) = e
@@ -37,7 +35,7 @@ adds_one points ring up face n old mid new a (inl (flat, same)) = record {
   kept = λ b h. subst (λ bs. Contains bs b) (sym same) (a.kept b h);
   each = λ b h. elim (a.each b (subst (λ bs. Contains bs b) same h))
       [ inl o ↦ inl o | inr (i, lt, s) ↦ inr (i, omega (arith, lt), s) ];
-  all = λ i lt. elim (below_or_at i n lt) [
+  all = λ i lt. elim (last_or i n lt) [
     | inl l ↦ subst (HasBar points ring up face i) (sym same)
         (a.all i l)
     | inr e ↦ inl (subst (λ k. (step_at points ring up k).0.x ≡ (step_at points ring up k).1.x)
@@ -55,7 +53,7 @@ adds_one points ring up face n old mid new a (inr (bar, is, s)) = record {
           (step_at points ring up n).1 face) (only_one bar b m) s,
     )
   ];
-  all = λ i lt. elim (below_or_at i n lt) [
+  all = λ i lt. elim (last_or i n lt) [
     | inl l ↦ older i (a.all i l)
     | inr e ↦ subst
         (λ k. HasBar points ring up face k new) (sym e) (inr (
@@ -99,7 +97,7 @@ rings_one points rings up n old new r a = record {
           (step_at points (ring_at rings k) (is_up up k) i).1 k b) (sym f) s,
     ))
   ];
-  all = λ f i h l. elim (below_or_at f n h) [
+  all = λ f i h l. elim (last_or f n h) [
     | inl m ↦ older f i (r.all f i m l)
     | inr e ↦ subst (λ k. HasBar points (ring_at rings k) (is_up up k) k i new) (sym e)
         (a.all i (subst (λ k. i < length (ring_at rings k)) e l))

@@ -8,6 +8,7 @@ use Rattle.std.specs.List.{Contains}
 use Rattle.std.specs.List.Sorted.{IsPermutation}
 use Rattle.std.proofs.lemmas.List.Elements.{All-filter, All-contains_itself, filter_passes}
 use Rattle.std.proofs.lemmas.List.Sorted.{Contains-permutation, All-permutation}
+use Rattle.ff_basics.proofs.Tests.{first_true, second_true}
 use Rattle.ff_whole.proofs.Ring.{var, num, ◌⊖◌, ◌⊗◌, solve}
 use Rattle.ff_whole.proofs.Signs.{linear}
 use Rattle.ff_whole.specs.declared.points.Pt.{Pt}
@@ -29,14 +30,6 @@ abbrev pub IsFree : List Bar → ℤ → ℤ → Type 0
 IsFree bars a c = (b : Bar) → Contains bars b → ((b.lo.x ≤ℤ a) × (c ≤ℤ b.hi.x))
     ⊎ ((b.hi.x ≤ℤ a) ⊎ (c ≤ℤ b.lo.x))
 
-both-left : (a b : Bool) → (a && b) ≡ true → a ≡ true
-both-left true b h = refl
-both-left false b h = h
-
-both-right : (a b : Bool) → (a && b) ≡ true → b ≡ true
-both-right true b h = h
-both-right false b h = absurd (true≢false (sym h))
-
 yes : (a b : ℤ) → a ≤ℤ b → int_le a b ≡ true
 yes a b h = grind (arith, ints)
 
@@ -48,8 +41,8 @@ spans_of a c b h k = record {
 
 test_of : (a c : ℤ) (b : Bar) → spans_strip a c b ≡ true → Spans (at_x a) (at_x c) b
 test_of a c b h =
-    let u = both-left (int_le b.lo.x a) (int_le c b.hi.x) h in
-    let v = both-right (int_le b.lo.x a) (int_le c b.hi.x) h in
+    let u = first_true (int_le b.lo.x a) (int_le c b.hi.x) h in
+    let v = second_true (int_le b.lo.x a) (int_le c b.hi.x) h in
     spans_of a c b (omega (arith, ints)) (omega (arith, ints))
 
 has_cons : {X : Type 0} (t : Bool) (x b : X) (ys : List X) → Contains ys b → Contains (cond t (x ∷ ys) ys) b

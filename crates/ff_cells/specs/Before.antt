@@ -13,6 +13,7 @@ use Rattle.ff_whole.specs.declared.places.Place.{Place}
 abbrev pub x_cmp : Place → Place → Ordering
 x_cmp p q = int_cmp (p.x *ℤ q.w) (q.x *ℤ p.w)
 
+-- the place is west of the other
 abbrev pub x_before : Place → Place → Bool
 x_before p q = is_lt (x_cmp p q)
 
@@ -24,6 +25,7 @@ rise_cmp at k l = int_cmp (rise k at *ℤ l.b) (rise l at *ℤ k.b)
 abbrev pub low_cmp : Place → Place → Line → Line → Ordering
 low_cmp left right k l = ordering_then (rise_cmp left k l) (rise_cmp right k l)
 
+-- the one line is below the other between the borders
 abbrev pub is_lower : Place → Place → Line → Line → Bool
 is_lower left right k l = is_lt (low_cmp left right k l)
 

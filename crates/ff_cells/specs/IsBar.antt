@@ -7,6 +7,7 @@ use Rattle.ff_whole.specs.declared.points.Pt.{Pt}
 use Rattle.ff_whole.specs.declared.lines.Line.{Line}
 use Rattle.ff_cells.specs.Before.{IsRising}
 
+-- a bar's line goes from its western point to its eastern one
 pub record IsBar (lo hi : Pt) (line : Line) : Type 0 where
   pub lo_in : IsNear lo
   pub hi_in : IsNear hi

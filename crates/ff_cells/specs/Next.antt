@@ -48,6 +48,7 @@ pairs_left at v = sum_by (λ k. count_by (approaches at k) v) v
 abbrev pub IsAmong : List Bar → ℕ → Bar → Type 0
 IsAmong v n b = (k : ℕ) × (k < length v) × (k < n) × (slice_index_or v k b ≡ b)
 
+-- the bar stands at the place n or later
 abbrev pub IsAfter : List Bar → ℕ → Bar → Type 0
 IsAfter v n b = (k : ℕ) × (k < length v) × (n ≤ k) × (slice_index_or v k b ≡ b)
 

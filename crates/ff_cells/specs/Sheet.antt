@@ -44,6 +44,7 @@ pub record AreFaceBars (Has : Bar → Type 0) (Step : ℕ → Line → Type 0) :
       → (run (spot b.lo) p ≢ pos 0) × (run p (spot b.hi) ≢ pos 0)) → (i : Bar) × Has i × (i.lower ≡ true)
       × (i.face ≡ n) × IsOver i p
 
+-- two borders between which no bar ends
 pub record IsSlab (Has : Bar → Type 0) (left right : Place) : Type 0 where
   pub left_positive : pos 0 <ℤ left.w
   pub right_positive : pos 0 <ℤ right.w

@@ -43,6 +43,7 @@ abbrev pub PassesBelow : Sheet → ℕ → Place → Type 0
 PassesBelow g e s = (t : Place) × IsPlace t × IsTrue (is_on g e t) × (run s t ≡ pos 0)
     × ((t.y *ℤ s.w) <ℤ (s.y *ℤ t.w))
 
+-- the edge passes above the place
 abbrev pub PassesAbove : Sheet → ℕ → Place → Type 0
 PassesAbove g e s = (t : Place) × IsPlace t × IsTrue (is_on g e t) × (run s t ≡ pos 0)
     × ((s.y *ℤ t.w) <ℤ (t.y *ℤ s.w))
@@ -133,9 +134,9 @@ pub record HasFewCells (g : Sheet) : Type 0 where
 
 -- Why there are no cells: there are too many slab cells, or not too many but too many entries, or memory was
 -- refused.
-abbrev pub AreNoCells : Sheet → No → Type 0
-AreNoCells g NoMemory = Unit {0}
-AreNoCells g (Refused r) =
+abbrev pub WhyNoCells : Sheet → No → Type 0
+WhyNoCells g NoMemory = Unit {0}
+WhyNoCells g (Refused r) =
     ((r ≡ TooMany Cells MOST_CELLS)
     × ((places : List Place) × StandInCells g places × (MOST_CELLS < length places)))
     ⊎ ((r ≡ TooMany Entries MOST_ENTRIES) × ((places : List Place) × AreOneEach g places

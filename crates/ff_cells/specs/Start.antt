@@ -13,9 +13,11 @@ use Rattle.ff_cells.specs.Gap.{gap}
 abbrev pub slope_cmp : Line → Line → Ordering
 slope_cmp k l = int_cmp (neg_ℤ k.a *ℤ l.b) (neg_ℤ l.a *ℤ k.b)
 
+-- which of two lines is lower just east of a border: by height there, then by slope
 abbrev pub start_cmp : Place → Line → Line → Ordering
 start_cmp at k l = ordering_then (rise_cmp at k l) (slope_cmp k l)
 
+-- the line is the lower one there
 abbrev pub starts_lower : Place → Line → Line → Bool
 starts_lower at k l = is_lt (start_cmp at k l)
 

@@ -47,6 +47,7 @@ abbrev pub AreSwept : List Bar → List ℤ → ℕ → Found → Type 0
 AreSwept bars xs n found = (all : List Cell) × IsTally all found × IsCells bars xs n all
     × (found.count ≤ MOST_CELLS)
 
+-- why no cells are given: there are too many, or no memory
 abbrev pub AreStopped : List Bar → List ℤ → No → Type 0
 AreStopped bars xs NoMemory = Unit {0}
 AreStopped bars xs (Refused r) = (r ≡ TooMany Cells MOST_CELLS)

@@ -7,6 +7,7 @@ use Rattle.ff_cells.specs.declared.cell.Cell.{Cell}
 use Rattle.ff_cells.specs.Swept.{IsSwept}
 use Rattle.ff_cells.specs.declared.bars.Bar.{Bar}
 
+-- the bar goes from one border of the strip to the other
 abbrev pub spans_strip : ℤ → ℤ → Bar → Bool
 spans_strip a c b = int_le b.lo.x a && int_le c b.hi.x
 

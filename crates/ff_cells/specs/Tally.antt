@@ -30,5 +30,6 @@ Adds old more new = (all : List Cell) → IsTally all old → IsTally (all ++ mo
 abbrev pub StaysFew : Found → Found → Type 0
 StaysFew old new = old.count ≤ MOST_CELLS → new.count ≤ MOST_CELLS
 
+-- the cell has these faces and these corners
 abbrev pub IsCellOf : List ℕ → Corners → Cell → Type 0
 IsCellOf faces at c = c ≡ record { faces = faces; at = at.first ∷ at.second ∷ at.third ∷ [] }

@@ -12,6 +12,7 @@ use Rattle.ff_cells.specs.Steps.{AreBars}
 use Rattle.ff_cells.specs.Strip.{IsCells}
 use Rattle.ff_cells.specs.Tally.{IsTally}
 
+-- the x of all points, from west to east
 pub record AreXs (points : List Pt) (xs : List ℤ) : Type 0 where
   pub same : IsPermutation (map (λ p. p.x) points) xs
   pub sorted : IsSorted int_cmp xs

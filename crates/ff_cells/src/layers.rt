@@ -7,7 +7,7 @@ ghost use Rattle.ff_types.specs.Sheets.{sheet_of};
 ghost use Rattle.ff_types.specs.declared.limits.TheConstants.{MOST_CELLS as most_cells};
 ghost use Rattle.ff_types.specs.declared.limits.TheConstants.{MOST_ENTRIES as most_entries};
 ghost use Rattle.ff_cells.specs.FaceSets.{HaveFaceSets, IsFaceList};
-ghost use Rattle.ff_cells.specs.SlabCells.{AreCells, HasFewCells, AreNoCells};
+ghost use Rattle.ff_cells.specs.SlabCells.{AreCells, HasFewCells, WhyNoCells};
 ghost use Rattle.ff_cells.specs.Reached.{AreFromLeft};
 ghost use Rattle.ff_cells.specs.Steps.{AreBars};
 ghost use Rattle.ff_cells.specs.Tally.{entries_of};
@@ -56,7 +56,7 @@ fn swept(alloc: Global, faces: &Faces, folded: &Folded) -> Result<Found, No>
     ensures done { IfOk result (AreFound folded.now.points faces.now.rings folded.now.up) }
     ensures refused { IfErr result (λ no. (pattern : PatternRow)
         → IsFoldedPattern pattern faces.now folded.now
-        → AreNoCells (sheet_of pattern faces.now folded.now) no) }
+        → WhyNoCells (sheet_of pattern faces.now folded.now) no) }
 {
     let bars = bars_from_left(alloc, faces, folded)?;
     let xs = all_xs(alloc, folded.points.as_slice())?;
@@ -84,7 +84,7 @@ pub fn cells(alloc: Global, faces: &Faces, folded: &Folded) -> Result<Items<Cell
     ensures few_entries { IfOk result (λ list. entries_of list ≤ most_entries) }
     ensures refused { IfErr result (λ no. (pattern : PatternRow)
         → IsFoldedPattern pattern faces.now folded.now
-        → AreNoCells (sheet_of pattern faces.now folded.now) no) }
+        → WhyNoCells (sheet_of pattern faces.now folded.now) no) }
 {
     let found = swept(alloc, faces, folded)?;
     if found.entries > MOST_ENTRIES {

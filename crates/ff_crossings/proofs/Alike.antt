@@ -2,7 +2,7 @@
 use Rattle.std.proofs.Common.{◌≡◌, ◌⊎◌, inl, inr, ℕ, zero, suc, ◌==◌, ◌∙◌, ◌&&◌, ◌||◌, Bool, true, false, List, [], ◌∷◌, length, map, nat_lt, slice_get, slice_index_or, Some, IsTrue, refl, ap, sym, subst, arith}
 use Rattle.std.proofs.lemmas.Bool.{false≢true, ltb-true, eqb-true}
 use Rattle.std.proofs.lemmas.List.{length-map, get_or-map}
-use Rattle.std.proofs.lemmas.Option.{slice_get_within, slice_get-get_or, get_or_from_slice_get}
+use Rattle.std.proofs.lemmas.Option.{slice_get_within, slice_get-get_or, get_or_from_slice_get, same_Some}
 use Rattle.ff_tables.specs.declared.terms.Kind.{Kind}
 use Rattle.ff_tables.specs.declared.terms.Term.{Term}
 use Rattle.ff_tables.specs.declared.terms.Constraint.{Constraint}
@@ -21,6 +21,7 @@ use Rattle.ff_types.proofs.SortedPairs.{before_is}
 use Rattle.ff_borders.proofs.Witnesses.{witnessed_hold}
 use Rattle.ff_crossings.specs.CaseLaws.{CasesAreAlike}
 use Rattle.std.specs.List.{filter_map}
+use Rattle.ff_basics.proofs.Tests.{both_of, either_of}
 use Rattle.ff_crossings.proofs.Truth.{at_place}
 use Rattle.ff_crossings.proofs.CaseRows.{same_terms}
 use Rattle.ff_crossings.proofs.SortedLists.{InOrder, Stands, same_lists}
@@ -47,26 +48,18 @@ unmapped f (x ∷ xs) (suc n) y e = unmapped f xs n y e
 
 -- ---- orders
 
-either : (a b : Bool) → IsTrue (a || b) → IsTrue a ⊎ IsTrue b
-either true b t = inl refl
-either false b t = inr t
-
-both : (a b : Bool) → IsTrue (a && b) → IsTrue a × IsTrue b
-both true b t = (refl, t)
-both false b t = absurd (false≢true t)
-
 pub lists_apart : (p q : List ℕ) → IsTrue (list_before p q) → IsTrue (list_before q p) → ⊥
 lists_apart [] [] h k = false≢true h
 lists_apart [] (y ∷ q) h k = false≢true k
 lists_apart (x ∷ p) [] h k = false≢true h
-lists_apart (x ∷ p) (y ∷ q) h k = elim (either (nat_lt x y) ((x == y) && list_before p q) h) [
-  | inl a ↦ elim (either (nat_lt y x) ((y == x) && list_before q p) k) [
+lists_apart (x ∷ p) (y ∷ q) h k = elim (either_of (nat_lt x y) ((x == y) && list_before p q) h) [
+  | inl a ↦ elim (either_of (nat_lt y x) ((y == x) && list_before q p) k) [
     | inl b ↦ omega (arith, ltb-true x y a, ltb-true y x b)
-    | inr b ↦ omega (arith, ltb-true x y a, eqb-true y x (both (y == x) (list_before q p) b).0)
+    | inr b ↦ omega (arith, ltb-true x y a, eqb-true y x (both_of (y == x) (list_before q p) b).0)
   ]
-  | inr a ↦ elim (either (nat_lt y x) ((y == x) && list_before q p) k) [
-    | inl b ↦ omega (arith, ltb-true y x b, eqb-true x y (both (x == y) (list_before p q) a).0)
-    | inr b ↦ lists_apart p q (both (x == y) (list_before p q) a).1 (both (y == x) (list_before q p) b).1
+  | inr a ↦ elim (either_of (nat_lt y x) ((y == x) && list_before q p) k) [
+    | inl b ↦ omega (arith, ltb-true y x b, eqb-true x y (both_of (x == y) (list_before p q) a).0)
+    | inr b ↦ lists_apart p q (both_of (x == y) (list_before p q) a).1 (both_of (y == x) (list_before q p) b).1
   ]
 ]
 
@@ -78,11 +71,8 @@ pairs_apart p q h k = elim (before_is p q h) [
 
 -- ---- constraints
 
-one_number : (m n : ℕ) → Some m ≡ Some n → m ≡ n
-one_number m n e = cc
-
 same_term : (pairs : List (ℕ × ℕ)) (p : ℕ × ℕ) (s t : Term) → IsTermOf pairs p s → IsTermOf pairs p t → s ≡ t
-same_term pairs p s t a b = of_fields (one_number s.var t.var (sym a.variable ∙ b.variable)) (a.turned ∙ sym b.turned) where
+same_term pairs p s t a b = of_fields (same_Some s.var t.var (sym a.variable ∙ b.variable)) (a.turned ∙ sym b.turned) where
   of_fields : s.var ≡ t.var → s.flipped ≡ t.flipped → s ≡ t
   of_fields d e = ap (λ (v : ℕ). record { var = v; flipped = s.flipped }) d ∙ ap (λ (f : Bool). record { var = t.var; flipped = f }) e
 

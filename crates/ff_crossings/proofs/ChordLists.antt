@@ -4,6 +4,7 @@ use Rattle.std.proofs.Common.{◌≡◌, ◌≢◌, ℕ, suc, ◌<◌, ◌⊎◌
 use Rattle.std.specs.Prelude.{if◌then◌else◌}
 use Rattle.std.proofs.lemmas.Bool.{ltb-true, and_parts}
 use Rattle.std.proofs.lemmas.List.Elements.{Contains-append_left, Contains-append_right, Contains-append_cases}
+use Rattle.ff_basics.proofs.Memberships.{by_member, filter_in, first_member, in_filter, in_map, in_range, no_member, range_in}
 use Rattle.ff_whole.specs.declared.places.Place.{Place}
 use Rattle.ff_types.specs.declared.patterns.Mark.{Mark}
 use Rattle.ff_types.specs.declared.patterns.Mark.TheVariants.{B, M, V, F, U}
@@ -12,7 +13,6 @@ use Rattle.ff_types.specs.Inside.{is_inside, over}
 use Rattle.ff_types.specs.Borders.{is_on}
 use Rattle.ff_types.specs.Covering.{covers_left, covers_right, left_faces, right_faces}
 use Rattle.ff_types.specs.Crossings.{Side, face_chord, entry, edge_chord, edge_chords, chords}
-use Rattle.ff_types.proofs.Memberships.{by_member, no_member, first_member, in_map, in_filter, filter_in, in_range, range_in}
 use Rattle.ff_crossings.specs.ChordMembers.{IsFaceChord, IsEdgeChord}
 use Rattle.ff_crossings.proofs.RowTests.{map_in}
 

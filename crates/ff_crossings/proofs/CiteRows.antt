@@ -1,6 +1,7 @@
 -- Every constraint that holds has its row, or what its cite names is crossed.
 use Rattle.std.proofs.Common.{◌≡◌, ◌≢◌, ℕ, ◌<◌, ◌⊎◌, inl, inr, Bool, true, false, ◌&&◌, List, [], ◌∷◌, length, arith, sym, subst, ap, ◌∙◌, IsTrue, Contains}
 use Rattle.std.proofs.lemmas.Bool.{and_parts}
+use Rattle.ff_basics.proofs.Memberships.{by_member, no_member}
 use Rattle.ff_tables.specs.declared.terms.Kind.TheVariants as kind
 use Rattle.ff_whole.specs.declared.places.Place.{Place}
 use Rattle.ff_types.specs.declared.cites.Cite.{Cite}
@@ -13,7 +14,6 @@ use Rattle.ff_types.specs.Cites.{Holds, is_folded_edge, is_flat_edge, lesser, gr
 use Rattle.ff_types.specs.Terms.{HasItsRow, matching, opposed}
 use Rattle.ff_types.specs.Stackings.{CanBeListed, IsStacking}
 use Rattle.ff_types.specs.Crossings.{Side, chords, IsGeometricStacking}
-use Rattle.ff_types.proofs.Memberships.{by_member, no_member}
 use Rattle.ff_borders.specs.Folded.{AreBeside}
 use Rattle.ff_borders.specs.PlainPlaces.{IsPlainBetween}
 use Rattle.ff_crossings.specs.Listings.{AreCompared, HasTripleRows}

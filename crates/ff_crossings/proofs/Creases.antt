@@ -3,6 +3,8 @@ use Rattle.std.proofs.Common.{◌≡◌, ◌≢◌, ◌⊎◌, inl, inr, ℕ, �
 use Rattle.std.proofs.lemmas.Bool.{false≢true, lt-ltb}
 use Rattle.std.proofs.lemmas.Option.{slice_get_within, slice_get-get_or, get_or_from_slice_get}
 use Rattle.std.specs.List.{filter_map, cons_option}
+use Rattle.ff_basics.proofs.Memberships.{by_member, first_member, in_range, later_member, no_member, range_in}
+use Rattle.ff_basics.proofs.Lists.{filter_map_in, in_filter_map}
 use Rattle.ff_tables.specs.declared.orders.Order.{Order}
 use Rattle.ff_tables.specs.declared.orders.Order.TheVariants.{Below, Above}
 use Rattle.ff_tables.specs.declared.givens.Given.{Given}
@@ -21,31 +23,11 @@ use Rattle.ff_types.specs.Cites.{lesser, greater, is_folded_edge}
 use Rattle.ff_types.specs.Cases.{IsCaseOf, crease_order, given_by, start_of}
 use Rattle.ff_types.specs.Assignments.{says_above, says_below, set_by, HoldsStarts}
 use Rattle.ff_types.specs.FoldedPatterns.{IsFoldedPattern}
-use Rattle.ff_types.proofs.Memberships.{no_member, by_member, first_member, later_member, in_range, range_in}
 use Rattle.ff_borders.proofs.TwoSides.{HasSides, both_sides, by_order}
 use Rattle.ff_borders.proofs.Terms.{crease_faces_overlap}
 use Rattle.ff_crossings.proofs.PairSets.{overlap_number, turned_number, lower_value, upper_value}
 
 -- ---- lists
-
-pub in_filter_map : {A B : Type 0} (h : A → Option B) (xs : List A) (y : B) → Contains (filter_map h xs) y → (x : A) × Contains xs x × (h x ≡ Some y)
-in_filter_map h [] y m = absurd (no_member y m)
-in_filter_map {A} {B} h (x ∷ xs) y m = by (h x) refl (λ n. in_filter_map h xs y n) m where
-  by : (o : Option B) → h x ≡ o → (Contains (filter_map h xs) y → (z : A) × Contains xs z × (h z ≡ Some y)) → Contains (cons_option o (filter_map h xs)) y
-      → (z : A) × Contains (x ∷ xs) z × (h z ≡ Some y)
-  by None e f n = let r = f n in (r.0, later_member x xs r.0 r.1, r.2)
-  by (Some z) e f n = by_member z (filter_map h xs) y (λ d. (x, first_member x xs x refl, e ∙ ap Some d)) (λ k. let r = f k in (r.0, later_member x xs r.0 r.1, r.2)) n
-
-pub filter_map_in : {A B : Type 0} (h : A → Option B) (xs : List A) (x : A) (y : B) → Contains xs x → h x ≡ Some y → Contains (filter_map h xs) y
-filter_map_in h [] x y m e = absurd (no_member x m)
-filter_map_in {A} {B} h (z ∷ xs) x y m e = by (h z) refl (λ n. filter_map_in h xs x y n e) where
-  by : (o : Option B) → h z ≡ o → (Contains xs x → Contains (filter_map h xs) y) → Contains (cons_option o (filter_map h xs)) y
-  by None d f = by_member z xs x (λ same. absurd (none_some (sym d ∙ ap h same ∙ e))) f m where
-    none_some : None ≡ Some y → ⊥
-    none_some q = cc
-  by (Some w) d f = by_member z xs x (λ same. first_member w (filter_map h xs) y (the (sym d ∙ ap h same ∙ e))) (λ k. later_member w (filter_map h xs) y (f k)) m where
-    the : Some w ≡ Some y → w ≡ y
-    the q = cc
 
 -- ---- one crease
 

@@ -4,6 +4,8 @@ use Rattle.std.proofs.Common.{◌≡◌, ◌≢◌, ℕ, ◌<◌, ◌⊎◌, inl
 use Rattle.std.specs.Prelude.{if◌then◌else◌}
 use Rattle.std.proofs.lemmas.Bool.{false≢true, and_parts, and_from, or_left, or_right, or_from, ltb-true, lt-ltb}
 use Rattle.std.proofs.lemmas.List.Folds.{list_any_at}
+use Rattle.ff_basics.proofs.Memberships.{range_in}
+use Rattle.ff_basics.proofs.Numbers.{same_number}
 use Rattle.ff_whole.specs.declared.places.Place.{Place}
 use Rattle.ff_types.specs.declared.patterns.Mark.{Mark}
 use Rattle.ff_types.specs.declared.patterns.Mark.TheVariants.{B, M, V, F, U}
@@ -15,8 +17,6 @@ use Rattle.ff_types.specs.Covering.{is_on_ring, lies_left, covers_left, covers_r
 use Rattle.ff_types.specs.Cites.{is_folded_edge, is_flat, is_flat_edge}
 use Rattle.ff_types.specs.Crossings.{entry}
 use Rattle.ff_types.specs.Crossings.Side.{Left, Right}
-use Rattle.ff_types.proofs.Computing.{equal_itself}
-use Rattle.ff_types.proofs.Memberships.{range_in}
 use Rattle.ff_borders.specs.Folded.{AreBeside}
 use Rattle.ff_borders.specs.Lying.{IsLeftAlone, IsRightAlone}
 use Rattle.ff_crossings.proofs.ChordLists.{faces_in}
@@ -71,7 +71,7 @@ module _ (g : Sheet) where
   -- ---- both faces of an edge are on its ring
 
   is_some_itself : (f : ℕ) (o : Option ℕ) → o ≡ Some f → IsTrue (is_some_of f o)
-  is_some_itself f o e = ap (is_some_of f) e ∙ equal_itself f
+  is_some_itself f o e = ap (is_some_of f) e ∙ same_number f
 
   pub bounds_first : (k f h : ℕ) → AreBeside g k f h → IsTrue (bounds g k f)
   bounds_first k f h b = elim b.beside [

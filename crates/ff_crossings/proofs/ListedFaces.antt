@@ -5,9 +5,9 @@ use Rattle.std.proofs.lemmas.List.{get_or_default}
 use Rattle.std.proofs.lemmas.List.Kept.{AllPairs-filter}
 use Rattle.std.proofs.lemmas.List.Elements.{Contains-get_or}
 use Rattle.std.proofs.lemmas.Bool.{cases_Bool, cases_eq, cases_order, both_ways, eqb-true, or_cases, or_left, or_right}
+use Rattle.ff_basics.proofs.Memberships.{by_member, filter_in, first_member, in_filter, later_member, no_member}
+use Rattle.ff_basics.proofs.Numbers.{same_number}
 use Rattle.ff_types.specs.Stackings.{CanBeListed}
-use Rattle.ff_types.proofs.Computing.{equal_itself}
-use Rattle.ff_types.proofs.Memberships.{by_member, no_member, first_member, later_member, in_filter, filter_in}
 use Rattle.ff_crossings.specs.Listings.{AreCompared, HasNoCycle}
 use Rattle.ff_crossings.specs.Alternating.{Rises}
 
@@ -164,7 +164,7 @@ in_is_true : (list : List ℕ) (f : ℕ) → Contains list f → IsTrue (is_in l
 in_is_true [] f m = absurd (no_member f m)
 in_is_true (h ∷ list) f m =
     by_member h list f (λ e. or_left (f == h) (is_in list f)
-    (subst (λ z. IsTrue (f == z)) (sym e) (equal_itself f)))
+    (subst (λ z. IsTrue (f == z)) (sym e) (same_number f)))
     (λ n. or_right (f == h) (is_in list f) (in_is_true list f n)) m
 
 -- ---- the two laws

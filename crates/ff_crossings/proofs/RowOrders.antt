@@ -1,13 +1,13 @@
 -- What it says of an order of faces that the values of terms are a row, kind by kind.
 use Rattle.std.proofs.Common.{◌≡◌, ◌≢◌, ℕ, ◌↔◌, ◌⊎◌, inl, inr, Bool, true, false, not, ◌&&◌, List, [], ◌∷◌, refl, sym, ap, ◌∙◌, IsTrue, Contains}
 use Rattle.std.proofs.lemmas.Bool.{false≢true, cases_Bool, and_parts, and_from}
+use Rattle.ff_basics.proofs.Memberships.{first_member, later_member}
 use Rattle.ff_tables.specs.declared.orders.Order.{Order}
 use Rattle.ff_tables.specs.declared.terms.Kind.TheVariants.{TacoTaco, TacoTortilla, TortillaTortilla, Transitivity}
 use Rattle.ff_tables.specs.Orders.{is_order}
 use Rattle.ff_tables.specs.Rows.{has_no_cycle, both_or_neither}
 use Rattle.ff_types.specs.Terms.{value_in}
 use Rattle.ff_types.specs.Stackings.{CanBeListed}
-use Rattle.ff_types.proofs.Memberships.{first_member, later_member}
 use Rattle.ff_crossings.specs.Listings.{AreCompared, HasNoCycle}
 use Rattle.ff_crossings.specs.Alternating.{IsOneWay, IsAmong, IsBeyond, Interleave}
 use Rattle.ff_crossings.specs.RowMeanings.{IsSomeRow, values, GoRound, AreFour, four_terms}

@@ -4,12 +4,12 @@ use Rattle.std.proofs.Common.{◌≡◌, ℕ, zero, suc, ◌↔◌, List, [], �
 use Rattle.std.proofs.lemmas.Bool.{false≢true}
 use Rattle.std.proofs.lemmas.Option.{get_or_from_slice_get, slice_get-get_or, slice_get_within}
 use Rattle.std.proofs.lemmas.List.Elements.{Contains-append_left, Contains-append_right}
+use Rattle.ff_basics.proofs.Memberships.{by_member, filter_in, first_member, in_filter, later_member, no_member}
 use Rattle.ff_tables.specs.declared.orders.Order.{Order}
 use Rattle.ff_tables.specs.declared.orders.Order.TheVariants.{Below, Above}
 use Rattle.ff_tables.specs.declared.terms.Kind.{Kind}
 use Rattle.ff_tables.specs.declared.terms.Kind.TheVariants.{TacoTaco, TacoTortilla, TortillaTortilla, Transitivity}
 use Rattle.ff_tables.specs.Rows.{arity, all_lists, is_row, rows_of}
-use Rattle.ff_types.proofs.Memberships.{by_member, no_member, first_member, later_member, in_filter, filter_in}
 use Rattle.ff_crossings.specs.RowMeanings.{IsSomeRow}
 
 pub map_in : {A B : Type 0} (f : A → B) (xs : List A) (x : A) → Contains xs x → Contains (map f xs) (f x)

@@ -1,5 +1,6 @@
 -- Lists that are strictly in order and have the same members are the same.
 use Rattle.std.proofs.Common.{◌≡◌, ◌≢◌, ℕ, zero, suc, ◌<◌, ◌↔◌, ◌∙◌, List, [], ◌∷◌, slice_get, Some, None, refl, ap, sym, subst, arith, length, ◌≤◌}
+use Rattle.std.proofs.lemmas.Option.{none-some, same_Some}
 
 -- each is before those that come after it
 unfoldable pub InOrder : {A : Type 0} → (A → A → Type 0) → List A → Type 0
@@ -8,12 +9,6 @@ InOrder {A} R xs = (m n : ℕ) (x y : A) → m < n → slice_get xs m ≡ Some x
 -- it stands somewhere in the list
 abbrev pub Stands : {A : Type 0} → List A → A → Type 0
 Stands xs x = (n : ℕ) × (slice_get xs n ≡ Some x)
-
-the_first : {A : Type 0} (x y : A) → Some x ≡ Some y → x ≡ y
-the_first x y e = cc
-
-not_none : {A : Type 0} (x : A) → None ≡ Some x → ⊥
-not_none x e = cc
 
 tail_order : {A : Type 0} (R : A → A → Type 0) (x : A) (xs : List A) → InOrder R (x ∷ xs) → InOrder R xs
 unfolding InOrder
@@ -26,13 +21,13 @@ head_order R x xs o n y a = o 0 (suc n) x y (omega arith) refl a
 pub same_lists : {A : Type 0} (R : A → A → Type 0) → ((x y : A) → R x y → R y x → ⊥) → (xs ys : List A) → InOrder R xs → InOrder R ys
     → ((x : A) → Stands xs x ↔ Stands ys x) → xs ≡ ys
 same_lists R apart [] [] a b s = refl
-same_lists R apart [] (y ∷ ys) a b s = let h = (s y).1 (0, refl) in absurd (not_none y h.1)
-same_lists R apart (x ∷ xs) [] a b s = let h = (s x).0 (0, refl) in absurd (not_none x h.1)
+same_lists R apart [] (y ∷ ys) a b s = let h = (s y).1 (0, refl) in absurd (none-some y h.1)
+same_lists R apart (x ∷ xs) [] a b s = let h = (s x).0 (0, refl) in absurd (none-some x h.1)
 same_lists {A} R apart (x ∷ xs) (y ∷ ys) a b s = ap (λ z. z ∷ xs) heads ∙ ap (λ zs. y ∷ zs) (same_lists R apart xs ys (tail_order R x xs a) (tail_order R y ys b) tails) where
   -- the heads are the same
   first : Stands (y ∷ ys) x → Stands (x ∷ xs) y → x ≡ y
-  first (zero, e) t = sym (the_first y x e)
-  first (suc n, e) (zero, f) = the_first x y f
+  first (zero, e) t = sym (same_Some y x e)
+  first (suc n, e) (zero, f) = same_Some x y f
   first (suc n, e) (suc m, f) = absurd (apart x y (head_order R x xs a m y f) (head_order R y ys b n x e))
 
   heads : x ≡ y
@@ -48,17 +43,17 @@ same_lists {A} R apart (x ∷ xs) (y ∷ ys) a b s = ap (λ z. z ∷ xs) heads �
   tails : (z : A) → Stands xs z ↔ Stands ys z
   tails z = ((λ (n, e). down n e ((s z).0 (suc n, e))), (λ (n, e). up n e ((s z).1 (suc n, e)))) where
     down : (n : ℕ) → slice_get xs n ≡ Some z → Stands (y ∷ ys) z → Stands ys z
-    down n e (zero, f) = absurd (later z n e (heads ∙ the_first y z f))
+    down n e (zero, f) = absurd (later z n e (heads ∙ same_Some y z f))
     down n e (suc m, f) = (m, f)
 
     up : (n : ℕ) → slice_get ys n ≡ Some z → Stands (x ∷ xs) z → Stands xs z
-    up n e (zero, f) = absurd (later2 z n e (sym heads ∙ the_first x z f))
+    up n e (zero, f) = absurd (later2 z n e (sym heads ∙ same_Some x z f))
     up n e (suc m, f) = (m, f)
 
 -- a list of members of another is no longer
 pub no_longer : {A : Type 0} (R : A → A → Type 0) → ((x y : A) → R x y → R y x → ⊥) → (xs ys : List A) → InOrder R xs → InOrder R ys → ((x : A) → Stands xs x → Stands ys x) → length xs ≤ length ys
 no_longer R apart [] ys a b s = omega arith
-no_longer R apart (x ∷ xs) [] a b s = let h = s x (0, refl) in absurd (not_none x h.1)
+no_longer R apart (x ∷ xs) [] a b s = let h = s x (0, refl) in absurd (none-some x h.1)
 no_longer {A} R apart (x ∷ xs) (y ∷ ys) a b s = by (s x (0, refl))
     (λ f. no_longer R apart xs ys (tail_order R x xs a) (tail_order R y ys b) f) (λ f. no_longer R apart (x ∷ xs) ys a (tail_order R y ys b) f) where
       by : Stands (y ∷ ys) x → (((z : A) → Stands xs z → Stands ys z) → length xs ≤ length ys) → (((z : A) → Stands (x ∷ xs) z → Stands ys z) → length (x ∷ xs) ≤ length ys)
@@ -67,7 +62,7 @@ no_longer {A} R apart (x ∷ xs) (y ∷ ys) a b s = by (s x (0, refl))
         tails : (z : A) (n : ℕ) → slice_get xs n ≡ Some z → Stands (y ∷ ys) z → Stands ys z
         tails z n f (suc m, g) = (m, g)
         tails z n f (zero, g) =
-            let same : x ≡ z = sym (the_first y x e) ∙ the_first y z g in
+            let same : x ≡ z = sym (same_Some y x e) ∙ same_Some y z g in
             let r = head_order R x xs a n z f in
             absurd (apart x z r (subst (λ w. R w x) same (subst (λ w. R x w) (sym same) r)))
       by (suc i, e) first rest = let l = rest (λ z (n, f). later z n f (s z (n, f))) in omega (arith, l) where
@@ -77,9 +72,9 @@ no_longer {A} R apart (x ∷ xs) (y ∷ ys) a b s = by (s x (0, refl))
         later : (z : A) (n : ℕ) → slice_get (x ∷ xs) n ≡ Some z → Stands (y ∷ ys) z → Stands ys z
         later z n f (suc m, g) = (m, g)
         later z zero f (zero, g) =
-            let same : x ≡ y = the_first x z f ∙ sym (the_first y z g) in
+            let same : x ≡ y = same_Some x z f ∙ sym (same_Some y z g) in
             absurd (apart y x before (subst (λ w. R w y) (sym same) (subst (λ w. R y w) same before)))
-        later z (suc n) f (zero, g) = absurd (apart y x before (subst (λ w. R x w) (sym (the_first y z g)) (head_order R x xs a n z f)))
+        later z (suc n) f (zero, g) = absurd (apart y x before (subst (λ w. R x w) (sym (same_Some y z g)) (head_order R x xs a n z f)))
 
 -- ---- different items
 
@@ -95,14 +90,14 @@ removing (y ∷ ys) (suc i) = y ∷ removing ys i
 
 removed_length : {A : Type 0} (ys : List A) (i : ℕ) (x : A) → slice_get ys i ≡ Some x → length ys ≡ suc (length (removing ys i))
 unfolding removing
-removed_length [] i x e = absurd (not_none x e)
+removed_length [] i x e = absurd (none-some x e)
 removed_length (y ∷ ys) zero x e = refl
 removed_length (y ∷ ys) (suc i) x e = ap suc (removed_length ys i x e)
 
 removed_there : {A : Type 0} (ys : List A) (i j : ℕ) (x z : A) → slice_get ys i ≡ Some x → slice_get ys j ≡ Some z → x ≢ z → Stands (removing ys i) z
 unfolding removing
-removed_there [] i j x z e f d = absurd (not_none x e)
-removed_there (y ∷ ys) zero zero x z e f d = absurd (d (sym (the_first y x e) ∙ the_first y z f))
+removed_there [] i j x z e f d = absurd (none-some x e)
+removed_there (y ∷ ys) zero zero x z e f d = absurd (d (sym (same_Some y x e) ∙ same_Some y z f))
 removed_there (y ∷ ys) zero (suc j) x z e f d = (j, f)
 removed_there (y ∷ ys) (suc i) zero x z e f d = (0, f)
 removed_there (y ∷ ys) (suc i) (suc j) x z e f d = let h = removed_there ys i j x z e f d in (suc h.0, h.1)

@@ -17,6 +17,7 @@ Rises above list = AllPairs (λ lower upper. IsTrue (above upper lower)) list
 abbrev pub IsAmong : (ℕ → ℕ → Bool) → ℕ → ℕ → ℕ → Type 0
 IsAmong above x y z = (IsTrue (above z x) × IsTrue (above y z)) ⊎ (IsTrue (above z y) × IsTrue (above x z))
 
+-- z is above both x and y, or below both
 abbrev pub IsBeyond : (ℕ → ℕ → Bool) → ℕ → ℕ → ℕ → Type 0
 IsBeyond above x y z = (IsTrue (above x z) × IsTrue (above y z)) ⊎ (IsTrue (above z x) × IsTrue (above z y))
 
@@ -48,6 +49,7 @@ LeftCapAlternates = (above : ℕ → ℕ → Bool) (left right : List ℕ) → A
     → (x y h h2 : ℕ) → Contains left x → Contains left y → Contains left h → Contains right h2
     → Alternate (circle left right) (Left x, Left y) (Left h, Right h2) ↔ IsAmong above x y h
 
+-- so it is on the right side
 abbrev pub RightCapAlternates : Type 0
 RightCapAlternates = (above : ℕ → ℕ → Bool) (left right : List ℕ) → AreListed above left right
     → (x y h h2 : ℕ) → Contains right x → Contains right y → Contains left h → Contains right h2
@@ -59,11 +61,13 @@ LeftCapsAlternate = (above : ℕ → ℕ → Bool) (left right : List ℕ) → A
     → (x y z u : ℕ) → Contains left x → Contains left y → Contains left z → Contains left u
     → Alternate (circle left right) (Left x, Left y) (Left z, Left u) ↔ Interleave above x y z u
 
+-- two folds on the right side alternate exactly where they interleave
 abbrev pub RightCapsAlternate : Type 0
 RightCapsAlternate = (above : ℕ → ℕ → Bool) (left right : List ℕ) → AreListed above left right
     → (x y z u : ℕ) → Contains right x → Contains right y → Contains right z → Contains right u
     → Alternate (circle left right) (Right x, Right y) (Right z, Right u) ↔ Interleave above x y z u
 
+-- folds on opposite sides never alternate
 abbrev pub OpposedCapsNever : Type 0
 OpposedCapsNever = (left right : List ℕ) (x y z u : ℕ)
     → Alternate (circle left right) (Left x, Left y) (Right z, Right u) → ⊥

@@ -16,5 +16,6 @@ pub record AreAlike (case other : Case) : Type 0 where
   pub constraints : case.system.constraints ≡ other.system.constraints
   pub starts : case.starts ≡ other.starts
 
+-- two cases of one sheet are alike but for places
 abbrev pub CasesAreAlike : Sheet → Type 0
 CasesAreAlike g = (case other : Case) → IsCaseOf g case → IsCaseOf g other → AreAlike case other

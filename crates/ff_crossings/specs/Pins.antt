@@ -17,6 +17,7 @@ pub record IsListedPin (pairs : List (ℕ × ℕ)) (pin : Pin) : Type 0 where
   pub number : ℕ
   pub listed : number_of pairs pin.f pin.g ≡ Some number
 
+-- each pin is of a listed pair
 abbrev pub AreListedPins : List (ℕ × ℕ) → List Pin → Type 0
 AreListedPins pairs pins = (i : ℕ) (pin : Pin) → slice_get pins i ≡ Some pin → IsListedPin pairs pin
 

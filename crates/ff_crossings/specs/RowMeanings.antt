@@ -18,6 +18,7 @@ IsSomeRow kind row = (k : ℕ) × HasRow kind k row
 abbrev pub RowsByTest : Type 0
 RowsByTest = (kind : Kind) (row : List Order) → IsSomeRow kind row ↔ IsTrue (is_row kind row)
 
+-- the values of all terms
 abbrev pub values : (ℕ → ℕ → Bool) → List (ℕ × ℕ) → List Order
 values above terms = map (value_in above) terms
 
@@ -46,6 +47,7 @@ pub record AreFour (a b c d : ℕ) : Type 0 where
   pub bd : b ≢ d
   pub cd : c ≢ d
 
+-- the pairs among four faces, in order
 abbrev pub four_terms : ℕ → ℕ → ℕ → ℕ → List (ℕ × ℕ)
 four_terms a b c d = (a, b) ∷ (a, c) ∷ (a, d) ∷ (b, c) ∷ (b, d) ∷ (c, d) ∷ []
 

@@ -3,6 +3,7 @@ use Rattle.std.proofs.Common.{◌≡◌, ◌⊎◌, inl, inr, ℕ, zero, suc, �
 use Rattle.std.specs.List.{Contains}
 use Rattle.std.proofs.lemmas.List.{get_or_default}
 use Rattle.std.proofs.lemmas.List.Elements.{Contains-get_or}
+use Rattle.ff_basics.proofs.Numbers.{last_or, which}
 use Rattle.ff_types.specs.declared.patterns.EdgeEnds.{EdgeEnds}
 use Rattle.ff_types.specs.Patterns.{edge_at}
 use Rattle.ff_types.specs.Drawings.{joins, joined}
@@ -13,12 +14,6 @@ use Rattle.ff_drawn.specs.Darts.{dart_at, ComesBefore, AreInOrder, AreDarts, IsS
 use Rattle.ff_drawn.proofs.Starts.{before_trans, not_before_itself}
 use Rattle.ff_drawn.proofs.DartOrder.{here_or_later}
 use Rattle.ff_drawn.proofs.SeenDarts.{back_joins}
-
-which : (i j : ℕ) → (i < j) ⊎ ((j < i) ⊎ (i ≡ j))
-which i j = grind arith
-
-last_or : (k n : ℕ) → k < suc n → (k < n) ⊎ (k ≡ n)
-last_or k n l = grind arith
 
 which_dart : (p q : Dart) → ComesBefore p q ⊎ (ComesBefore q p ⊎ (p ≡ q))
 which_dart p q = elim (which p.tail q.tail) [

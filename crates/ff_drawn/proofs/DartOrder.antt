@@ -5,6 +5,7 @@ use Rattle.std.specs.Cmp.{ranks}
 use Rattle.std.specs.List.{AllByRecursion, Contains}
 use Rattle.std.specs.List.Sorted.{IsStrictlySortedBy}
 use Rattle.std.proofs.lemmas.Bool.{false≢true}
+use Rattle.ff_basics.proofs.Tests.{equal_of}
 use Rattle.ff_drawn.specs.contracts.darts.DartOrd.TheImpl as order
 use Rattle.ff_drawn.specs.declared.darts.Dart.{Dart}
 use Rattle.ff_drawn.specs.Darts.{dart_at, ComesBefore}
@@ -53,11 +54,6 @@ sorted_by_place (p ∷ ps) h zero (suc c) l m = all_less p ps h.0 c (omega (arit
 sorted_by_place (p ∷ ps) h (suc d) (suc c) l m = sorted_by_place ps h.1 d c (omega (arith, l)) (omega (arith, m))
 
 -- ---- members
-
-pub eq_of : (o : Ordering) → is_eq o ≡ true → o ≡ Equal
-eq_of Less h = absurd (false≢true h)
-eq_of Equal h = refl
-eq_of Greater h = absurd (false≢true h)
 
 pub here_or_later : (p : Dart) (ps : List Dart) (q : Dart) (k : ℕ) → k < length (p ∷ ps) → get_or (p ∷ ps) k q ≡ q → (p ≡ q) ⊎ Contains ps q
 here_or_later p ps q zero l e = inl e

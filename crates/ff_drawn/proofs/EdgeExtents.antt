@@ -10,6 +10,7 @@ use Rattle.std.proofs.lemmas.Bool.{false≢true}
 use Rattle.std.proofs.lemmas.List.{get_or_append_left, get_or_push, get_or_default}
 use Rattle.std.proofs.lemmas.List.Elements.{Contains-get_or}
 use Rattle.std.proofs.lemmas.List.Sorted.{Contains-permutation, IsPermutation-sym}
+use Rattle.ff_basics.proofs.Numbers.{last_or, which}
 use Rattle.ff_whole.specs.declared.points.Pt.{Pt}
 use Rattle.ff_whole.proofs.Signs.{linear}
 use Rattle.ff_types.specs.declared.patterns.EdgeEnds.{EdgeEnds}
@@ -19,12 +20,6 @@ use Rattle.ff_drawn.specs.declared.extents.Extent.{Extent}
 use Rattle.ff_drawn.specs.Beside.{AreBelow}
 use Rattle.ff_drawn.specs.Extents.{extent_at, IsAroundEdge, AreRound, AreEdgeExtents, AreInOrder, AreNotCrossing, CrossesNone, NoneCross}
 use Rattle.ff_drawn.proofs.EdgeCrossings.{apart_no_cross}
-
-last_or : (k n : ℕ) → k < n + 1 → (k < n) ⊎ (k ≡ n)
-last_or k n l = grind arith
-
-which : (i j : ℕ) → (i < j) ⊎ ((j < i) ⊎ (i ≡ j))
-which i j = grind arith
 
 -- ---- apart
 

@@ -4,15 +4,13 @@ use Rattle.std.proofs.lemmas.Int.{by_lt_z}
 use Rattle.std.specs.List.{Contains}
 use Rattle.std.proofs.lemmas.List.{get_or_default}
 use Rattle.std.proofs.lemmas.List.Elements.{Contains-get_or, Contains-push, Contains-append_left, Contains-push_cases}
+use Rattle.ff_basics.proofs.Numbers.{last_or}
 use Rattle.ff_whole.specs.declared.points.Pt.{Pt}
 use Rattle.ff_whole.proofs.Signs.{linear}
 use Rattle.ff_types.specs.declared.patterns.EdgeEnds.{EdgeEnds}
 use Rattle.ff_drawn.specs.declared.extents.Extent.{Extent}
 use Rattle.ff_drawn.specs.Extents.{extent_at, IsAroundEdge, AreRound, AreNotCrossing, NoneCross, IsBeyond, Reaches, IsPart}
 use Rattle.ff_drawn.proofs.EdgeExtents.{apart_in_x, apart_in_y, turned}
-
-last_or : (k n : ℕ) → k < n + 1 → (k < n) ⊎ (k ≡ n)
-last_or k n l = grind arith
 
 -- ---- a part, extent by extent
 

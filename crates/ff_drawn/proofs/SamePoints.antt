@@ -7,6 +7,8 @@ use Rattle.std.specs.List.{list_any}
 use Rattle.std.specs.Ordering.{is_eq}
 use Rattle.std.specs.declared.cmp.Ordering.{Ordering}
 use Rattle.std.specs.declared.cmp.Ordering.TheVariants.{Less, Equal, Greater}
+use Rattle.ff_basics.proofs.Tests.{equal_of}
+use Rattle.ff_basics.proofs.Numbers.{last_or}
 use Rattle.ff_whole.specs.declared.points.Pt.{Pt}
 use Rattle.ff_whole.specs.Convex.{point_at}
 use Rattle.ff_types.specs.FaceRefusals.{SamePointAt, IsLeast, Never}
@@ -26,21 +28,12 @@ has_seen_nothing ps seen e = record {
   differ = λ j k l m. absurd (omega (arith, l));
 }
 
-eq_of : (o : Ordering) → is_eq o ≡ true → o ≡ Equal
-eq_of Less h = absurd (false≢true h)
-eq_of Equal h = refl
-eq_of Greater h = absurd (false≢true h)
-
 is_itself : (p : Pt) → is_at (point_cmp p) p ≡ true
 is_itself p = ap is_eq (point_cmp-same p)
 
 or_true : (a : Bool) → cond a true true ≡ true
 or_true true = refl
 or_true false = refl
-
--- the last of i + 1 numbers, or one before
-last_or : (k i : ℕ) → k < i + 1 → (k < i) ⊎ (k ≡ i)
-last_or k i h = grind arith
 
 has_more : (ps : List Pt) (i : ℕ) (old new : BTreeSet Pt) → HasSeen ps i old
     → ((q : Pt) → contains point_cmp new q ≡ cond (is_at (point_cmp (point_at ps i)) q) true (contains point_cmp old q))
@@ -51,7 +44,7 @@ has_more ps i old new h u k (inr e) =
 
 only_more : (ps : List Pt) (i : ℕ) (old : BTreeSet Pt) (q : Pt) (b : Bool) → HasSeen ps i old → is_at (point_cmp (point_at ps i)) q ≡ b
     → cond b true (contains point_cmp old q) ≡ true → (k : ℕ) × (k < i + 1) × (point_at ps k ≡ q)
-only_more ps i old q true h e t = (i, omega arith, point_cmp-equal (point_at ps i) q (eq_of (point_cmp (point_at ps i) q) e))
+only_more ps i old q true h e t = (i, omega arith, point_cmp-equal (point_at ps i) q (equal_of (point_cmp (point_at ps i) q) e))
 only_more ps i old q false h e t = let o = h.only q t in (o.0, omega (arith, o.1), o.2)
 
 -- a point that the set lacks is none of those before it

@@ -9,16 +9,17 @@ use Rattle.std.proofs.lemmas.List.{get_or_default, length_push}
 use Rattle.std.proofs.lemmas.List.Elements.{Contains-get_or, Contains-push, Contains-append_left, Contains-push_cases}
 use Rattle.std.proofs.lemmas.List.Sorted.{Contains-permutation, IsPermutation-sym, length_permutation}
 use Rattle.std.proofs.lemmas.List.Kept.{Contains-dedup, Contains-from_dedup, IsStrictlySortedBy-dedup}
+use Rattle.ff_basics.proofs.Tests.{equal_of}
+use Rattle.ff_basics.proofs.Numbers.{last_or, same_number}
 use Rattle.ff_types.specs.declared.patterns.EdgeEnds.{EdgeEnds}
 use Rattle.ff_types.specs.Patterns.{edge_at}
 use Rattle.ff_types.specs.Drawings.{joins, joined}
 use Rattle.ff_types.proofs.PlainSheets.{joined_at, some_joins, joins_itself}
-use Rattle.ff_types.proofs.Computing.{equal_itself}
 use Rattle.ff_types.proofs.ComputedFaces.{joins_is}
 use Rattle.ff_drawn.specs.contracts.darts.DartOrd.TheImpl.Laws.{total-law}
 use Rattle.ff_drawn.specs.declared.darts.Dart.{Dart}
 use Rattle.ff_drawn.specs.Darts.{AreDarts, HoldDarts, dart_at}
-use Rattle.ff_drawn.proofs.DartOrder.{dart_cmp, dart_cmp-equal, sorted_by_place, eq_of}
+use Rattle.ff_drawn.proofs.DartOrder.{dart_cmp, dart_cmp-equal, sorted_by_place}
 
 -- the darts of the edge with a number
 abbrev there_at : List EdgeEnds → ℕ → Dart
@@ -42,11 +43,8 @@ no_darts edges = record {
   few = omega arith;
 }
 
-last_or : (k i : ℕ) → k < i + 1 → (k < i) ⊎ (k ≡ i)
-last_or k i h = grind arith
-
 pub back_joins : (e : EdgeEnds) → IsTrue (joins e.b e.a e)
-back_joins e = rw (equal_itself e.a, equal_itself e.b) (last_true ((e.a == e.b) && (e.b == e.a))) where
+back_joins e = rw (same_number e.a, same_number e.b) (last_true ((e.a == e.b) && (e.b == e.a))) where
   last_true : (b : Bool) → IsTrue (b || true)
   last_true true = refl
   last_true false = refl
@@ -109,7 +107,7 @@ module _ (same : Dart → Dart → Bool) (ties : (p q : Dart) → same p q ≡ e
   }
 
   alike : (p q : Dart) → same p q ≡ true → p ≡ q
-  alike p q h = dart_cmp-equal p q (eq_of (dart_cmp p q) (sym (ties p q) ∙ h))
+  alike p q h = dart_cmp-equal p q (equal_of (dart_cmp p q) (sym (ties p q) ∙ h))
 
   in_order : (edges : List EdgeEnds) (list sorted : List Dart) → HoldDarts edges list → IsPermutation list sorted → IsSorted dart_cmp sorted → length (dedup same sorted) ≤ length sorted → AreDarts edges (dedup same sorted)
   in_order edges list sorted h p s few = record {

@@ -1,10 +1,8 @@
 -- Where the darts that leave a vertex begin, one vertex after the other, and halving among them.
 use Rattle.std.proofs.Common.{◌≡◌, ◌⊎◌, inl, inr, ℕ, ◌+◌, ◌<◌, ◌≤◌, List, length, arith, sym, subst}
+use Rattle.ff_basics.proofs.Numbers.{at_most_or, last_or}
 use Rattle.ff_drawn.specs.declared.darts.Dart.{Dart}
 use Rattle.ff_drawn.specs.Darts.{dart_at, ComesBefore, AreInOrder, IsStart, ArePassed}
-
-last_or : (k n : ℕ) → k < n + 1 → (k < n) ⊎ (k ≡ n)
-last_or k n l = grind arith
 
 le_or : (i j : ℕ) → i ≤ j → (i < j) ⊎ (i ≡ j)
 le_or i j h = grind arith
@@ -47,12 +45,9 @@ pub record IsBetween (darts : List Dart) (q : Dart) (low high : ℕ) : Type 0 wh
   pub before : (k : ℕ) → k < low → ComesBefore (dart_at darts k) q
   pub after : (k : ℕ) → high ≤ k → k < length darts → ComesBefore (dart_at darts k) q → ⊥
 
-before_or : (i j : ℕ) → (i ≤ j) ⊎ (j < i)
-before_or i j = grind arith
-
 pub between : (darts : List Dart) (q : Dart) (low high : ℕ) → IsStart darts (record { tail = q.tail; head = 0 }) low → IsStart darts (record { tail = q.tail + 1; head = 0 }) high → IsBetween darts q low high
 between darts q low high a b = record {
-  order = elim (before_or low high) [
+  order = elim (at_most_or low high) [
     | inl l ↦ l
     | inr l ↦ let w = a.within in let x = before_first (dart_at darts high) q.tail (a.before high l) in
         absurd (b.after high (omega arith) (omega (arith, l, w)) (inl (omega (arith, x))))

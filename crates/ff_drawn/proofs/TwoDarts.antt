@@ -1,11 +1,12 @@
 -- A vertex has two edges where the second dart from its first on leaves it too.
 use Rattle.std.proofs.Common.{◌≡◌, ◌⊎◌, inl, inr, ℕ, ◌+◌, ◌<◌, ◌≤◌, ◌==◌, ◌&&◌, ◌||◌, Bool, true, false, IsTrue, List, length, arith, refl, sym, ap, ◌∙◌, subst}
 use Rattle.std.proofs.lemmas.Bool.{eqb-true}
+use Rattle.ff_basics.proofs.Numbers.{same_number}
+use Rattle.ff_basics.proofs.Tests.{either_of}
 use Rattle.ff_whole.specs.declared.points.Pt.{Pt}
 use Rattle.ff_types.specs.declared.patterns.EdgeEnds.{EdgeEnds}
 use Rattle.ff_types.specs.Patterns.{edge_at, Joins}
 use Rattle.ff_types.specs.Drawings.{has_end, joins, joined, HasTwoEdges}
-use Rattle.ff_types.proofs.Computing.{either, equal_itself}
 use Rattle.ff_types.proofs.ComputedFaces.{joins_is}
 use Rattle.ff_types.proofs.PlainSheets.{some_joins, joined_at}
 use Rattle.ff_drawn.specs.Graphs.{IsGraph}
@@ -16,8 +17,8 @@ use Rattle.ff_drawn.proofs.Starts.{not_before_itself}
 -- ---- the ends of an edge
 
 pub joins_so : (e : EdgeEnds) (u v : ℕ) → ((e.a ≡ u) × (e.b ≡ v)) ⊎ ((e.a ≡ v) × (e.b ≡ u)) → IsTrue (joins u v e)
-joins_so e u v (inl h) = rw (h.0, h.1, equal_itself u, equal_itself v) refl
-joins_so e u v (inr h) = rw (h.0, h.1, equal_itself v, equal_itself u) (last_true ((v == u) && (u == v))) where
+joins_so e u v (inl h) = rw (h.0, h.1, same_number u, same_number v) refl
+joins_so e u v (inr h) = rw (h.0, h.1, same_number v, same_number u) (last_true ((v == u) && (u == v))) where
   last_true : (b : Bool) → IsTrue (b || true)
   last_true true = refl
   last_true false = refl
@@ -27,8 +28,8 @@ joins_back e u v h = joins_so e v u (elim (joins_is e u v h) [ inl x ↦ inr x |
 
 ends_so : (e : EdgeEnds) (u v : ℕ) → IsTrue (joins u v e) → IsTrue (has_end e u)
 ends_so e u v h = elim (joins_is e u v h) [
-  | inl x ↦ rw (x.0, equal_itself u) refl
-  | inr x ↦ rw (x.1, equal_itself u) (last_true (e.a == u))
+  | inl x ↦ rw (x.0, same_number u) refl
+  | inr x ↦ rw (x.1, same_number u) (last_true (e.a == u))
 ]
   where
     last_true : (b : Bool) → IsTrue (b || true)
@@ -36,7 +37,7 @@ ends_so e u v h = elim (joins_is e u v h) [
     last_true false = refl
 
 other_end : (e : EdgeEnds) (v : ℕ) → IsTrue (has_end e v) → (w : ℕ) × IsTrue (joins v w e)
-other_end e v h = elim (either _ _ h) [
+other_end e v h = elim (either_of _ _ h) [
   | inl x ↦ (e.b, joins_so e v e.b (inl (eqb-true _ _ x, refl)))
   | inr x ↦ (e.a, joins_so e v e.a (inr (refl, eqb-true _ _ x)))
 ]

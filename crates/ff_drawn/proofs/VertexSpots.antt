@@ -4,18 +4,13 @@ use Rattle.std.proofs.lemmas.List.{get_or_append_left, get_or_push, get_or_defau
 use Rattle.std.proofs.lemmas.List.Elements.{Contains-get_or}
 use Rattle.std.proofs.lemmas.List.Sorted.{Contains-permutation, IsPermutation-sym}
 use Rattle.std.specs.List.Sorted.{IsPermutation}
+use Rattle.ff_basics.proofs.Numbers.{last_or, which}
 use Rattle.ff_whole.specs.declared.points.Pt.{Pt}
 use Rattle.ff_whole.specs.Convex.{point_at}
 use Rattle.ff_whole.proofs.Signs.{linear}
 use Rattle.ff_types.specs.FaceRefusals.{SamePointAt, Never}
 use Rattle.ff_drawn.specs.declared.extents.Extent.{Extent}
 use Rattle.ff_drawn.specs.Extents.{extent_at, IsVertexExtent, AreVertexExtents, AreSpots}
-
-last_or : (k n : ℕ) → k < n + 1 → (k < n) ⊎ (k ≡ n)
-last_or k n l = grind arith
-
-which : (i j : ℕ) → (i < j) ⊎ ((j < i) ⊎ (i ≡ j))
-which i j = grind arith
 
 -- what holds of each, in another order
 pub same_each : (P : Extent → Type 0) (old new : List Extent) → IsPermutation old new → ((i : ℕ) → i < length old → P (extent_at old i)) → (i : ℕ) → i < length new → P (extent_at new i)

@@ -1,5 +1,6 @@
 -- What three refusals that don't come say: the pattern is a drawing. And each of them says that it is none.
 use Rattle.std.proofs.Common.{◌≡◌, ◌⊎◌, inl, inr, ℕ, ◌+◌, ◌<◌, List, length, arith, sym}
+use Rattle.ff_basics.proofs.Numbers.{which}
 use Rattle.ff_whole.specs.declared.points.Pt.{Pt}
 use Rattle.ff_whole.specs.Convex.{AreApart}
 use Rattle.ff_types.specs.declared.patterns.EdgeEnds.{EdgeEnds}
@@ -10,9 +11,6 @@ use Rattle.ff_types.proofs.PlainSheets.{joins_itself}
 use Rattle.ff_drawn.specs.Graphs.{IsGraph}
 use Rattle.ff_drawn.proofs.EdgeCrossings.{end_or_within, end_not_within}
 use Rattle.ff_drawn.proofs.TwoDarts.{one_edge, apart_or}
-
-which : (i j : ℕ) → (i < j) ⊎ ((j < i) ⊎ (i ≡ j))
-which i j = grind arith
 
 pub apart_from : (points : List Pt) → Never (SamePointAt points) → AreApart points
 apart_from points h = record {

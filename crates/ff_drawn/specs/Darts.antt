@@ -17,6 +17,7 @@ ComesBefore d c = (d.tail < c.tail) ⊎ ((d.tail ≡ c.tail) × (d.head < c.head
 abbrev pub comes_before : Dart → Dart → Bool
 comes_before d c = nat_lt d.tail c.tail || ((d.tail == c.tail) && nat_lt d.head c.head)
 
+-- the directed edges stand in order
 pub record AreInOrder (darts : List Dart) : Type 0 where
   pub rises : (d c : ℕ) → d < c → c < length darts → ComesBefore (dart_at darts d) (dart_at darts c)
 
@@ -26,6 +27,7 @@ pub record IsStart (darts : List Dart) (q : Dart) (start : ℕ) : Type 0 where
   pub before : (k : ℕ) → k < start → ComesBefore (dart_at darts k) q
   pub after : (k : ℕ) → start ≤ k → k < length darts → ComesBefore (dart_at darts k) q → ⊥
 
+-- the directed edges of a drawing: each edge both ways, in order
 pub record AreDarts (edges : List EdgeEnds) (darts : List Dart) : Type 0 where
   pub sorted : AreInOrder darts
   -- each goes along an edge

@@ -14,6 +14,7 @@ use Rattle.ff_drawn.specs.declared.extents.Extent.{Extent}
 abbrev pub extent_at : List Extent → ℕ → Extent
 extent_at list i = slice_index_or list i (record { low = origin; high = origin; number = 0 })
 
+-- the extent has the point
 pub record IsAround (p : Pt) (e : Extent) : Type 0 where
   pub west : e.low.x ≤ℤ p.x
   pub east : p.x ≤ℤ e.high.x
@@ -77,6 +78,7 @@ pub record IsVertexExtent (points : List Pt) (e : Extent) : Type 0 where
   pub there : e.number < length points
   pub low_is : e.low ≡ point_at points e.number
 
+-- one extent for each vertex
 pub record AreVertexExtents (points : List Pt) (list : List Extent) : Type 0 where
   pub each : (i : ℕ) → i < length list → IsVertexExtent points (extent_at list i)
   pub all : (v : ℕ) → v < length points → (i : ℕ) × (i < length list) × ((extent_at list i).number ≡ v)

@@ -8,11 +8,11 @@ ghost use Rattle.ff_types.specs.FaceRefusals.{NoCrossing};
 ghost use Rattle.ff_drawn.specs.Graphs.{IsGraph};
 ghost use Rattle.ff_drawn.specs.Extents.{IsAroundEdge, AreRound, AreInOrder as AreFromWest, AreNotCrossing, CrossesNone, NoneCross, IsBeyond, Reaches, IsPart};
 
-use crate::extents::{Extent, edge_extents, high_of, is_south_of, is_west_of, low_of, order};
+use crate::extents::{Extent, edge_extents, is_south_of, is_west_of, order};
 use crate::segments::cross;
 use ff_tables::NoMemory;
 use ff_types::EdgeEnds;
-use ff_whole::{POINT_SIZE, Pt};
+use ff_whole::{POINT_SIZE, Pt, high_of, low_of};
 use std::alloc::Global;
 
 // So many edges are not halved.

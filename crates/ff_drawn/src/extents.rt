@@ -8,7 +8,7 @@ ghost use Rattle.ff_drawn.specs.Extents.{IsAround, IsAroundEdge, AreEdgeExtents,
 
 use ff_tables::NoMemory;
 use ff_types::EdgeEnds;
-use ff_whole::{POINT_SIZE, Pt};
+use ff_whole::{Pt, high_of, low_of};
 use std::alloc::Global;
 
 /// How far something with a number reaches: from its least to its greatest x and y.
@@ -17,58 +17,6 @@ pub struct Extent {
     pub low: Pt,
     pub high: Pt,
     pub number: u32,
-}
-
-fn lesser(a: i64, b: i64) -> i64
-    requires a_size { IsBelow POINT_SIZE a }
-    requires b_size { IsBelow POINT_SIZE b }
-    ensures first { result ≤ℤ a }
-    ensures second { result ≤ℤ b }
-    ensures size { IsBelow POINT_SIZE result }
-{
-    if a < b { a } else { b }
-}
-
-fn greater(a: i64, b: i64) -> i64
-    requires a_size { IsBelow POINT_SIZE a }
-    requires b_size { IsBelow POINT_SIZE b }
-    ensures first { a ≤ℤ result }
-    ensures second { b ≤ℤ result }
-    ensures size { IsBelow POINT_SIZE result }
-{
-    if a < b { b } else { a }
-}
-
-/// The point with the lesser x and the lesser y of two.
-pub fn low_of(p: Pt, q: Pt) -> Pt
-    requires p_near { IsNear p }
-    requires q_near { IsNear q }
-    ensures near { IsNear result }
-    ensures first_x { result.x ≤ℤ p.x }
-    ensures second_x { result.x ≤ℤ q.x }
-    ensures first_y { result.y ≤ℤ p.y }
-    ensures second_y { result.y ≤ℤ q.y }
-{
-    Pt {
-        x: lesser(p.x, q.x),
-        y: lesser(p.y, q.y),
-    }
-}
-
-/// The point with the greater x and the greater y of two.
-pub fn high_of(p: Pt, q: Pt) -> Pt
-    requires p_near { IsNear p }
-    requires q_near { IsNear q }
-    ensures near { IsNear result }
-    ensures first_x { p.x ≤ℤ result.x }
-    ensures second_x { q.x ≤ℤ result.x }
-    ensures first_y { p.y ≤ℤ result.y }
-    ensures second_y { q.y ≤ℤ result.y }
-{
-    Pt {
-        x: greater(p.x, q.x),
-        y: greater(p.y, q.y),
-    }
 }
 
 // The extent of two points.

@@ -11,6 +11,6 @@ mod spots;
 
 pub use darts::Dart;
 pub use drawings::{Drawn, drawing, drawn_darts};
-pub use extents::{Extent, high_of, is_south_of, is_west_of, low_of, order};
+pub use extents::{Extent, is_south_of, is_west_of, order};
 pub use leaving::place_of;
 pub use segments::{is_left, is_right};

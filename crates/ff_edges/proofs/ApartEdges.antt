@@ -1,6 +1,7 @@
 -- Edges whose extents don't touch have no segment in common.
 use Rattle.std.proofs.Common.{arith, subst, sym, ℕ, ◌<◌, ◌≤◌, ℤ, pos, ◌*ℤ◌, ◌<ℤ◌, ◌≤ℤ◌, IsTrue, List, length}
 use Rattle.std.proofs.lemmas.Int.{by_lt_z}
+use Rattle.ff_basics.proofs.Tests.{both_of}
 use Rattle.ff_whole.specs.declared.points.Pt.{Pt}
 use Rattle.ff_whole.specs.declared.places.Place.{Place}
 use Rattle.ff_whole.specs.Points.{minus, dot}
@@ -18,7 +19,7 @@ use Rattle.ff_types.proofs.FoldedEdges.{ends_apart}
 use Rattle.ff_edges.specs.declared.extents.Extent.{Extent}
 use Rattle.ff_edges.specs.SharedSegments.{constrain}
 use Rattle.ff_edges.specs.Extents.{IsAround, IsRoundEdge, IsRoundInner, IsTouching, AreExtents, IsRoundAll}
-use Rattle.ff_edges.proofs.OnWays.{both_of, on_from, not_left_on}
+use Rattle.ff_edges.proofs.OnWays.{on_from, not_left_on}
 use Rattle.ff_edges.proofs.PairLists.{both_inner}
 use Rattle.ff_edges.proofs.BesideFaces.{past_x, before_x, past_y, before_y, over_past_x, over_before_x, over_past_y, over_before_y, at_past_x, at_before_x, at_past_y, at_before_y}
 

@@ -1,6 +1,7 @@
 -- No part of an edge is inside a face that it is beside.
 use Rattle.std.proofs.Common.{◌≡◌, inl, inr, sym, subst, arith, ℕ, ◌<◌, ◌≤◌, ℤ, pos, neg_ℤ, ◌-ℤ◌, ◌*ℤ◌, ◌≤ℤ◌, refl, List, [], ◌∷◌, length}
 use Rattle.std.proofs.lemmas.Int.{ints}
+use Rattle.ff_basics.proofs.Tests.{both_of}
 use Rattle.ff_whole.specs.declared.points.Pt.{Pt}
 use Rattle.ff_whole.specs.declared.lines.Line.{Line}
 use Rattle.ff_whole.specs.declared.places.Place.{Place}
@@ -22,7 +23,7 @@ use Rattle.ff_types.specs.FoldedPatterns.{IsFoldedPattern}
 use Rattle.ff_types.proofs.FoldedEdges.{ends_apart}
 use Rattle.ff_edges.specs.declared.extents.Extent.{Extent}
 use Rattle.ff_edges.specs.Extents.{IsRoundEdge, IsRoundFace, IsBeside, AreExtents, IsRoundAll}
-use Rattle.ff_edges.proofs.OnWays.{both_of, on_from, not_left_on}
+use Rattle.ff_edges.proofs.OnWays.{on_from, not_left_on}
 use Rattle.ff_edges.proofs.FaceParts.{blend_place, blend_on}
 use Rattle.ff_edges.proofs.FaceSteps.{inner_of}
 use Rattle.ff_edges.proofs.StrictlyInside.{HasDirection, strictly_left}

@@ -3,6 +3,7 @@ use Rattle.std.proofs.Common.{◌≡◌, ◌≢◌, ◌⊎◌, inl, inr, refl, s
 use lib.IntN.{neg_ℤ, *ℤ-zero}
 use Rattle.std.proofs.lemmas.Int.{by_lt_z}
 use Rattle.std.proofs.lemmas.Bool.Decides.{Decides-int_eq}
+use Rattle.ff_basics.proofs.Tests.{of_both}
 use Rattle.ff_whole.specs.declared.points.Pt.{Pt}
 use Rattle.ff_whole.specs.declared.lines.Line.{Line}
 use Rattle.ff_whole.specs.declared.places.Place.{Place}
@@ -22,7 +23,7 @@ use Rattle.ff_whole.proofs.Directions.{rank-minus}
 use Rattle.ff_whole.proofs.Ranks.{rank-same}
 use Rattle.ff_whole.proofs.SharedPlaces.{one_place}
 use Rattle.ff_edges.specs.Ways.{IsCommonWay, HaveNoWay, IsEarlier, IsLater}
-use Rattle.ff_edges.proofs.OnWays.{of_both, on_from, to_on, turned, rank_at, IsRanked, ranked_from_on, on_from_ranked, same_line}
+use Rattle.ff_edges.proofs.OnWays.{on_from, to_on, turned, rank_at, IsRanked, ranked_from_on, on_from_ranked, same_line}
 
 -- ---- the points of a way in the order of x and then of y
 

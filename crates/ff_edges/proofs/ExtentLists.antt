@@ -1,14 +1,12 @@
 -- Extents that reach farther, and lists with one extent more.
 use Rattle.std.proofs.Common.{◌≡◌, ◌⊎◌, inl, inr, ℕ, ◌+◌, ◌<◌, List, [], ◌∷◌, ◌++◌, arith, sym, ◌∙◌, ap, subst}
 use Rattle.std.proofs.lemmas.List.{get_or_append_left, get_or_push, length_push}
+use Rattle.ff_basics.proofs.Numbers.{last_or}
 use Rattle.ff_whole.specs.declared.points.Pt.{Pt}
 use Rattle.ff_whole.specs.Convex.{point_at}
 use Rattle.ff_types.specs.Rings.{corner}
 use Rattle.ff_edges.specs.declared.extents.Extent.{Extent}
 use Rattle.ff_edges.specs.Extents.{IsExtent, IsAround, IsWithin, AreRound, extent_at, AreExtents, IsRoundAll}
-
-last_or : (k n : ℕ) → k < n + 1 → (k < n) ⊎ (k ≡ n)
-last_or k n l = grind arith
 
 pub round_more : (points : List Pt) (ring : List ℕ) (n : ℕ) (a b : Extent) → AreRound points ring n a → IsWithin a b → IsAround (point_at points (corner ring n)) b → AreRound points ring (n + 1) b
 round_more points ring n a b h on here k l = elim (last_or k n l) [

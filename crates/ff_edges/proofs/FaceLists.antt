@@ -5,6 +5,7 @@ use Rattle.std.specs.List.{All}
 use Rattle.std.proofs.lemmas.Bool.{false≢true, ltb-true}
 use Rattle.std.proofs.lemmas.Bool.Decides.{Decides-int_eq}
 use Rattle.std.proofs.lemmas.List.Elements.{All-cons}
+use Rattle.ff_basics.proofs.Tests.{both_of, of_both}
 use Rattle.ff_whole.specs.declared.points.Pt.{Pt}
 use Rattle.ff_whole.specs.declared.places.Place.{Place}
 use Rattle.ff_whole.specs.Points.{IsNear, minus, dot}
@@ -25,7 +26,7 @@ use Rattle.ff_edges.specs.declared.edge_face.EdgeFace.{EdgeFace}
 use Rattle.ff_edges.specs.Clips.{IsPartInside, IsNoneInside}
 use Rattle.ff_edges.specs.SharedSegments.{IsFull}
 use Rattle.ff_edges.specs.EdgesInside.{is_inner_edge, ComesBefore, IsEdgeFace, edge_and_face, AreEdgeFaces, IsCrossed, AreFacesTo, AreNoEdgeFaces}
-use Rattle.ff_edges.proofs.OnWays.{both_of, of_both, on_from, to_on, on_from_ranked, ranked_from_on}
+use Rattle.ff_edges.proofs.OnWays.{on_from, to_on, on_from_ranked, ranked_from_on}
 use Rattle.ff_edges.proofs.CommonWays.{IsSpan, span_from, span_to, long_of_rank}
 use Rattle.ff_edges.proofs.FaceSteps.{inner_of, inside_of, witness_of}
 use Rattle.ff_edges.proofs.FaceParts.{blend_left, blend_place, blend_on, comes_before, lies_between}

@@ -3,6 +3,7 @@ use Rattle.std.proofs.Common.{◌≡◌, ◌⊎◌, inl, inr, refl, sym, ap, ◌
 use lib.IntN.{*ℤ-zero}
 use Rattle.std.proofs.lemmas.Int.{ints}
 use Rattle.std.proofs.lemmas.Bool.Decides.{Decides-int_eq}
+use Rattle.ff_basics.proofs.Tests.{of_both}
 use Rattle.ff_whole.specs.declared.points.Pt.{Pt}
 use Rattle.ff_whole.specs.declared.lines.Line.{Line}
 use Rattle.ff_whole.specs.declared.places.Place.{Place}
@@ -15,7 +16,6 @@ use Rattle.ff_whole.proofs.Offsets.{past-sum, past-x, past-y, line_across, heigh
 use Rattle.ff_whole.proofs.OnEdges.{IsOn}
 use Rattle.ff_edges.specs.Clips.{gap, IsWithin, AreLeftOf}
 use Rattle.ff_edges.specs.EdgesInside.{ComesBefore, LiesBetween}
-use Rattle.ff_edges.proofs.OnWays.{of_both}
 use Rattle.ff_edges.proofs.Gaps.{blend_weight, blend_x, blend_y}
 
 -- ---- blends

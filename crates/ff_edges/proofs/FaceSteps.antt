@@ -4,6 +4,9 @@ use Rattle.std.specs.Prelude.{int_lt}
 use Rattle.std.specs.List.{list_all, list_any, Contains}
 use Rattle.std.proofs.lemmas.Int.{ints}
 use Rattle.std.proofs.lemmas.Bool.{cases_lt, lt-ltb, le-ltb}
+use Rattle.ff_basics.proofs.Memberships.{first_member, later_member}
+use Rattle.ff_basics.proofs.Lists.{all_from}
+use Rattle.ff_basics.proofs.Tests.{of_both, to_le, to_lt}
 use Rattle.ff_whole.specs.declared.points.Pt.{Pt}
 use Rattle.ff_whole.specs.declared.places.Place.{Place}
 use Rattle.ff_whole.specs.Points.{minus, dot}
@@ -23,20 +26,11 @@ use Rattle.ff_types.specs.Sheets.{Sheet, lies_up, is_face}
 use Rattle.ff_types.specs.Inside.{steps, depth, is_inside}
 use Rattle.ff_types.specs.Witnesses.{witness_edge, witness_face}
 use Rattle.ff_types.specs.FoldedPatterns.{IsFoldedPattern}
-use Rattle.ff_types.proofs.Memberships.{first_member, later_member}
 use Rattle.ff_types.proofs.FoldedOverlap.{step_goes, inside_step}
 use Rattle.ff_types.proofs.FoldedEdges.{step_long}
 use Rattle.ff_edges.specs.Clips.{AreLeftOf, inner_line, border_line, IsInnerTo}
-use Rattle.ff_edges.proofs.OnWays.{of_both, to_le}
 
 -- ---- tests of all members
-
-pub all_from : {A : Type 0} (p : A → Bool) (l : List A) → ((x : A) → Contains l x → IsTrue (p x)) → IsTrue (list_all p l)
-all_from p [] h = refl
-all_from p (x ∷ l) h = of_both (p x) (list_all p l) (h x (first_member x l x refl)) (all_from p l (λ y c. h y (later_member x l y c)))
-
-pub to_lt : (z : ℤ) → pos 0 <ℤ z → IsTrue (int_lt (pos 0) z)
-to_lt z h = grind (arith, ints)
 
 either_true : (a b : Bool) → IsTrue a ⊎ IsTrue b → IsTrue (list_any (λ x. x) (a ∷ b ∷ []))
 either_true true b h = refl

@@ -6,6 +6,7 @@ use Rattle.std.specs.Ordering.{int_eq}
 use Rattle.std.proofs.lemmas.Int.{ints, by_lt_z}
 use Rattle.std.proofs.lemmas.Bool.{false≢true}
 use Rattle.std.proofs.lemmas.Bool.Decides.{Decides-int_eq}
+use Rattle.ff_basics.proofs.Tests.{both_of, eq_from, le_from, of_both, to_eq, to_le}
 use Rattle.ff_whole.specs.declared.points.Pt.{Pt}
 use Rattle.ff_whole.specs.declared.lines.Line.{Line}
 use Rattle.ff_whole.specs.declared.places.Place.{Place}
@@ -23,26 +24,6 @@ use Rattle.ff_whole.proofs.OnEdges.{IsOn}
 use Rattle.ff_edges.specs.Ways.{is_on_way}
 
 -- ---- the test
-
-pub both_of : (a b : Bool) → IsTrue (a && b) → IsTrue a × IsTrue b
-both_of true b t = (refl, t)
-both_of false b t = absurd (false≢true t)
-
-pub of_both : (a b : Bool) → IsTrue a → IsTrue b → IsTrue (a && b)
-of_both true b s t = t
-of_both false b s t = absurd (false≢true s)
-
-pub le_from : (z : ℤ) → IsTrue (int_le (pos 0) z) → pos 0 ≤ℤ z
-le_from z t = omega (arith, ints, t)
-
-pub to_le : (z : ℤ) → pos 0 ≤ℤ z → IsTrue (int_le (pos 0) z)
-to_le z h = grind (arith, ints)
-
-pub eq_from : (z : ℤ) → IsTrue (int_eq z (pos 0)) → z ≡ pos 0
-eq_from z t = (Decides-int_eq z (pos 0)).0 t
-
-pub to_eq : (z : ℤ) → z ≡ pos 0 → IsTrue (int_eq z (pos 0))
-to_eq z h = (Decides-int_eq z (pos 0)).1 h
 
 pub on_from : (p q : Pt) (s : Place) → IsTrue (is_on_way p q s) → IsOn p q s
 on_from p q s t =

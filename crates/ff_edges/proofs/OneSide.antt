@@ -2,26 +2,14 @@
 use Rattle.std.proofs.Common.{ℕ, ◌⊎◌, ◌↔◌, inl, inr, refl, Bool, true, false, ◌||◌, List, [], ◌∷◌, IsTrue}
 use Rattle.std.specs.List.{list_all}
 use Rattle.std.proofs.lemmas.Bool.{false≢true}
+use Rattle.ff_basics.proofs.Tests.{both_of, either_of, of_both, of_first, of_second}
 use Rattle.ff_whole.specs.declared.points.Pt.{Pt}
 use Rattle.ff_types.specs.Faces.{ring_at}
 use Rattle.ff_edges.specs.Ways.{are_left, are_right, AreLeft, AreRight}
-use Rattle.ff_edges.proofs.OnWays.{both_of, of_both}
 
 abbrev pub one_side : List Pt → List (List ℕ) → Pt → Pt → ℕ → ℕ → ℕ → ℕ → Bool
 one_side points rings p q a b c d = list_all (λ f. are_left points p q (ring_at rings f)) (a ∷ b ∷ c ∷ d ∷ [])
     || list_all (λ f. are_right points p q (ring_at rings f)) (a ∷ b ∷ c ∷ d ∷ [])
-
-either_of : (x y : Bool) → IsTrue (x || y) → IsTrue x ⊎ IsTrue y
-either_of true y t = inl t
-either_of false y t = inr t
-
-first_of : (x y : Bool) → IsTrue x → IsTrue (x || y)
-first_of true y t = refl
-first_of false y t = absurd (false≢true t)
-
-second_of : (x y : Bool) → IsTrue y → IsTrue (x || y)
-second_of true y t = refl
-second_of false y t = t
 
 all_four : (test : ℕ → Bool) (a b c d : ℕ) → IsTrue (test a) × IsTrue (test b) → IsTrue (test c) × IsTrue (test d) → IsTrue (list_all test (a ∷ b ∷ c ∷ d ∷ []))
 all_four test a b c d x y = of_both (test a) _ x.0 (of_both (test b) _ x.1 (of_both (test c) _ y.0 (of_both (test d) true y.1 refl)))
@@ -35,10 +23,10 @@ each_four test a b c d t =
 
 module _ (points : List Pt) (rings : List (List ℕ)) (p q : Pt) where
   pub from_left : (a b c d : ℕ) → AreLeft points rings p q a b → AreLeft points rings p q c d → IsTrue (one_side points rings p q a b c d)
-  from_left a b c d x y = first_of _ _ (all_four (λ f. are_left points p q (ring_at rings f)) a b c d x y)
+  from_left a b c d x y = of_first _ _ (all_four (λ f. are_left points p q (ring_at rings f)) a b c d x y)
 
   pub from_right : (a b c d : ℕ) → AreRight points rings p q a b → AreRight points rings p q c d → IsTrue (one_side points rings p q a b c d)
-  from_right a b c d x y = second_of _ _ (all_four (λ f. are_right points p q (ring_at rings f)) a b c d x y)
+  from_right a b c d x y = of_second _ _ (all_four (λ f. are_right points p q (ring_at rings f)) a b c d x y)
 
   pub on_side : (a b c d : ℕ) → IsTrue (one_side points rings p q a b c d) → (AreLeft points rings p q a b × AreLeft points rings p q c d) ⊎ (AreRight points rings p q a b × AreRight points rings p q c d)
   on_side a b c d t = elim (either_of _ _ t) [
@@ -59,4 +47,4 @@ by_tests points rings p q a b c d x y u v = (there, back) where
   ]
 
   back : IsTrue (one_side points rings p q a b c d) → IsTrue (x || y)
-  back t = elim (on_side points rings p q a b c d t) [ inl s ↦ first_of x y (u.1 s) | inr s ↦ second_of x y (v.1 s) ]
+  back t = elim (on_side points rings p q a b c d t) [ inl s ↦ of_first x y (u.1 s) | inr s ↦ of_second x y (v.1 s) ]

@@ -1,6 +1,7 @@
 -- The list of edges that run along each other, as far as it is made, and what it comes to.
 use Rattle.std.proofs.Common.{◌≡◌, ℕ, ◌+◌, ◌<◌, ◌≤◌, ◌⊎◌, inl, inr, refl, sym, ◌∙◌, arith, Bool, true, false, ◌||◌, IsTrue, List, [], ◌∷◌, ◌++◌, length}
 use Rattle.std.proofs.lemmas.Bool.{cases_lt, ltb-true, false≢true}
+use Rattle.ff_basics.proofs.Tests.{both_of}
 use Rattle.ff_whole.specs.declared.points.Pt.{Pt}
 use Rattle.ff_whole.specs.Points.{IsNear}
 use Rattle.ff_whole.specs.Convex.{point_at}
@@ -17,8 +18,7 @@ use Rattle.ff_types.proofs.FoldedEdges.{tail_below, head_below, ends_apart}
 use Rattle.ff_edges.specs.declared.edge_pair.EdgePair.{EdgePair}
 use Rattle.ff_edges.specs.Ways.{IsCommonWay, HaveNoWay}
 use Rattle.ff_edges.specs.EdgesInside.{is_inner_edge}
-use Rattle.ff_edges.specs.SharedSegments.{beside_both, constrain, edges_of_pair, IsEdgePair, AreEdgePairs, IsWanted, ArePairsTo, IsFull, AreNoEdgePairs}
-use Rattle.ff_edges.proofs.OnWays.{both_of}
+use Rattle.ff_edges.specs.SharedSegments.{beside_both, constrain, edges_of_pair, IsEdgePair, AreEdgePairs, IsWanted, ArePairsTo, IsFull, WhyNoEdgePairs}
 use Rattle.ff_edges.proofs.CommonWays.{way_or_not}
 use Rattle.ff_edges.proofs.Segments.{constrain_by, segment_of, no_segment}
 use Rattle.ff_edges.proofs.Rows as rows
@@ -114,7 +114,7 @@ module _ {pattern : Pattern} {faces : Faces} {folded : Folded} (h : IsFoldedPatt
     ]
 
   pub too_many : (e k : ℕ) (list : List EdgePair) (x : EdgePair) → e < length pattern.edges → (x.e ≡ e) × (x.e2 ≡ k) × IsEdgePair g x → ArePairsTo g e k list
-      → (no : No) → IsFull (length list) no → AreNoEdgePairs g no
+      → (no : No) → IsFull (length list) no → WhyNoEdgePairs g no
   too_many e k list x l good s NoMemory full = tt
   too_many e k list x l good s (Refused r) full =
       let more = rows.finish edges_of_pair (IsEdgePair g) (IsWanted g) (length pattern.edges) (length pattern.edges)

@@ -3,6 +3,7 @@ use Rattle.std.proofs.Common.{ℕ, zero, suc, ◌<◌, List, [], ◌∷◌, leng
 use Rattle.std.specs.Prelude.{int_le}
 use Rattle.std.specs.List.{list_all}
 use Rattle.std.proofs.lemmas.Int.{ints}
+use Rattle.ff_basics.proofs.Tests.{at_most_from, both_of, le_from, of_both, to_at_most, to_le}
 use Rattle.ff_whole.specs.declared.points.Pt.{Pt}
 use Rattle.ff_whole.specs.Points.{turn}
 use Rattle.ff_whole.specs.Places.{place_of, through, height}
@@ -10,7 +11,6 @@ use Rattle.ff_whole.specs.Convex.{point_at}
 use Rattle.ff_whole.proofs.Signs.{linear}
 use Rattle.ff_whole.proofs.Turns.{height-through, turn-swap}
 use Rattle.ff_edges.specs.Ways.{are_left, are_right}
-use Rattle.ff_edges.proofs.OnWays.{both_of, of_both, le_from, to_le}
 
 pub all_from : (test : ℕ → Bool) (xs : List ℕ) → ((k : ℕ) → k < length xs → IsTrue (test (get_or xs k 0))) → IsTrue (list_all test xs)
 all_from test [] h = refl
@@ -20,12 +20,6 @@ pub all_at : (test : ℕ → Bool) (xs : List ℕ) → IsTrue (list_all test xs)
 all_at test [] t k l = absurd (omega (arith, l))
 all_at test (x ∷ xs) t zero l = (both_of (test x) (list_all test xs) t).0
 all_at test (x ∷ xs) t (suc k) l = all_at test xs (both_of (test x) (list_all test xs) t).1 k (omega (arith, l))
-
-at_most_from : (z : ℤ) → IsTrue (int_le z (pos 0)) → z ≤ℤ pos 0
-at_most_from z t = omega (arith, ints, t)
-
-to_at_most : (z : ℤ) → z ≤ℤ pos 0 → IsTrue (int_le z (pos 0))
-to_at_most z h = grind (arith, ints)
 
 module _ (points : List Pt) (p q : Pt) (ring : List ℕ) where
   -- the k-th vertex

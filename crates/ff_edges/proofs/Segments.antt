@@ -4,6 +4,7 @@ use Rattle.std.specs.Ordering.{int_eq}
 use Rattle.std.proofs.lemmas.Int.{ints}
 use Rattle.std.proofs.lemmas.Bool.{false≢true}
 use Rattle.std.proofs.lemmas.Bool.Decides.{Decides-int_eq}
+use Rattle.ff_basics.proofs.Tests.{both_of, of_both}
 use Rattle.ff_whole.specs.declared.points.Pt.{Pt}
 use Rattle.ff_whole.specs.Points.{minus, dot}
 use Rattle.ff_whole.specs.Places.{place_of, through, height, past, same_place}
@@ -19,7 +20,7 @@ use Rattle.ff_types.specs.Cites.{is_flat}
 use Rattle.ff_types.specs.Sheets.{Sheet, tail, head}
 use Rattle.ff_types.specs.Segments.{ShareSegment}
 use Rattle.ff_edges.specs.Ways.{is_on_way, IsCommonWay, HaveNoWay}
-use Rattle.ff_edges.proofs.OnWays.{both_of, of_both, to_on}
+use Rattle.ff_edges.proofs.OnWays.{to_on}
 
 -- ---- the marks
 

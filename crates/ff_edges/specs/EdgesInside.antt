@@ -34,6 +34,7 @@ pub record LiesBetween (s t m : Place) : Type 0 where
   pub some : 0 < i + j
   pub same : IsTrue (same_place m (blend i s j t))
 
+-- the place with this number
 abbrev pub place_at : List Place → ℕ → Place
 place_at places i = slice_index_or places i (record { x = pos 0; y = pos 0; w = pos 1 })
 
@@ -50,6 +51,7 @@ pub record IsEdgeFace (g : Sheet) (c : EdgeFace) : Type 0 where
   pub goes : ComesBefore (place_at c.at 0) (place_at c.at 1)
   pub all : (m : Place) → IsPlace m → IsTrue (is_on g c.e m) → IsTrue (is_inside g c.face m) → LiesBetween (place_at c.at 0) (place_at c.at 1) m
 
+-- the edge and the face of an entry
 abbrev pub edge_and_face : EdgeFace → ℕ × ℕ
 edge_and_face c = (c.e, c.face)
 

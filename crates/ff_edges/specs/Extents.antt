@@ -16,6 +16,7 @@ pub record IsExtent (a : Extent) : Type 0 where
   pub low_near : IsNear a.low
   pub high_near : IsNear a.high
 
+-- the extent has the point
 pub record IsAround (p : Pt) (a : Extent) : Type 0 where
   pub west : a.low.x ≤ℤ p.x
   pub east : p.x ≤ℤ a.high.x

@@ -28,6 +28,7 @@ pub record IsEdgePair (g : Sheet) (c : EdgePair) : Type 0 where
   pub shares : ShareSegment g c.e c.e2
   pub ends : IsCommonWay (tail g c.e) (head g c.e) (tail g c.e2) (head g c.e2) c.p c.q
 
+-- the two edges of an entry
 abbrev pub edges_of_pair : EdgePair → ℕ × ℕ
 edges_of_pair c = (c.e, c.e2)
 
@@ -54,7 +55,7 @@ IsFull n NoMemory = Unit {0}
 IsFull n (Refused r) = (r ≡ TooMany Constraints MOST_CONSTRAINTS) × (MOST_CONSTRAINTS ≤ n)
 
 -- Why there is no list: it would be longer than the limit, or memory was refused.
-abbrev pub AreNoEdgePairs : Sheet → No → Type 0
-AreNoEdgePairs g NoMemory = Unit {0}
-AreNoEdgePairs g (Refused r) = (r ≡ TooMany Constraints MOST_CONSTRAINTS)
+abbrev pub WhyNoEdgePairs : Sheet → No → Type 0
+WhyNoEdgePairs g NoMemory = Unit {0}
+WhyNoEdgePairs g (Refused r) = (r ≡ TooMany Constraints MOST_CONSTRAINTS)
     × ((list : List EdgePair) × AreEdgePairs g list × (MOST_CONSTRAINTS < length list))

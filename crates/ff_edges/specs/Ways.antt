@@ -29,6 +29,7 @@ pub record IsLater (p q m : Pt) : Type 0 where
   pub second : rank q ≤ℤ rank m
   pub one : (m ≡ p) ⊎ (m ≡ q)
 
+-- the one of two points that comes first in their order
 pub record IsEarlier (p q m : Pt) : Type 0 where
   pub near : IsNear m
   pub first : rank m ≤ℤ rank p
@@ -52,5 +53,6 @@ are_right points p q ring = list_all (λ v. int_le (height (through p q) (place_
 abbrev pub AreLeft : List Pt → List (List ℕ) → Pt → Pt → ℕ → ℕ → Type 0
 AreLeft points rings p q f h = IsTrue (are_left points p q (ring_at rings f)) × IsTrue (are_left points p q (ring_at rings h))
 
+-- both rings are right of the way
 abbrev pub AreRight : List Pt → List (List ℕ) → Pt → Pt → ℕ → ℕ → Type 0
 AreRight points rings p q f h = IsTrue (are_right points p q (ring_at rings f)) × IsTrue (are_right points p q (ring_at rings h))

@@ -5,7 +5,7 @@ ghost use Rattle.ff_types.specs.Sheets.{sheet_of};
 ghost use Rattle.ff_types.specs.declared.limits.TheConstants.{MOST_CONSTRAINTS as most_constraints};
 ghost use Rattle.ff_edges.specs.EdgesInside.{is_inner_edge};
 ghost use Rattle.ff_edges.specs.Extents.{IsRoundInner, AreExtents, AreBlocks};
-ghost use Rattle.ff_edges.specs.SharedSegments.{ArePairsTo, AreEdgePairs, AreNoEdgePairs};
+ghost use Rattle.ff_edges.specs.SharedSegments.{ArePairsTo, AreEdgePairs, WhyNoEdgePairs};
 
 use crate::EdgePair;
 use crate::append::append;
@@ -33,7 +33,7 @@ fn append_shared(
     requires few { length list.old.items ≤ most_constraints }
     ensures listed { OnOk result (ArePairsTo (sheet_of pattern.now faces.now folded.now) e (k + 1) list.new.items) }
     ensures few { OnOk result (length list.new.items ≤ most_constraints) }
-    ensures refused { IfErr result (AreNoEdgePairs (sheet_of pattern.now faces.now folded.now)) }
+    ensures refused { IfErr result (WhyNoEdgePairs (sheet_of pattern.now faces.now folded.now)) }
 {
     match shared_segment(pattern, faces, folded, e, k) {
         Some(pair) => append(list, pair),
@@ -61,7 +61,7 @@ fn append_block(
     requires few { length list.old.items ≤ most_constraints }
     ensures listed { OnOk result (ArePairsTo (sheet_of pattern.now faces.now folded.now) e (BLOCK * b + BLOCK) list.new.items) }
     ensures few { OnOk result (length list.new.items ≤ most_constraints) }
-    ensures refused { IfErr result (AreNoEdgePairs (sheet_of pattern.now faces.now folded.now)) }
+    ensures refused { IfErr result (WhyNoEdgePairs (sheet_of pattern.now faces.now folded.now)) }
 {
     let extent = extents[e as usize];
     let from = b * BLOCK;
@@ -95,7 +95,7 @@ fn append_row(
     requires few { length list.old.items ≤ most_constraints }
     ensures listed { OnOk result (ArePairsTo (sheet_of pattern.now faces.now folded.now) (e + 1) 0 list.new.items) }
     ensures few { OnOk result (length list.new.items ≤ most_constraints) }
-    ensures refused { IfErr result (AreNoEdgePairs (sheet_of pattern.now faces.now folded.now)) }
+    ensures refused { IfErr result (WhyNoEdgePairs (sheet_of pattern.now faces.now folded.now)) }
 {
     if !is_inner(pattern, faces, folded, e) {
         return Ok(());
@@ -122,7 +122,7 @@ pub fn edge_pairs(
     requires { IsFoldedPattern pattern.now faces.now folded.now }
     ensures made { IfOk result (λ list. AreEdgePairs (sheet_of pattern.now faces.now folded.now) list) }
     ensures few { IfOk result (λ list. length list ≤ most_constraints) }
-    ensures refused { IfErr result (AreNoEdgePairs (sheet_of pattern.now faces.now folded.now)) }
+    ensures refused { IfErr result (WhyNoEdgePairs (sheet_of pattern.now faces.now folded.now)) }
 {
     let extents = inner_extents(alloc, pattern, faces, folded)?;
     let blocks = block_extents(alloc, extents.as_slice())?;

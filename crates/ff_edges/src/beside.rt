@@ -41,13 +41,13 @@ fn beside(pattern: &Pattern, faces: &Faces, folded: &Folded, e: u32) -> (u32, u3
     }
 }
 
-// Whether the face lies left of the way from `p` to `q`.
-fn face_left(pattern: &Pattern, faces: &Faces, folded: &Folded, f: u32, p: Pt, q: Pt) -> bool
+/// Whether the face lies left of the way from `p` to `q`: none of its vertices is right of it.
+pub fn face_left(pattern: &Pattern, faces: &Faces, folded: &Folded, f: u32, p: Pt, q: Pt) -> bool
     requires folded { IsFoldedPattern pattern.now faces.now folded.now }
     requires face { f < length faces.now.rings }
     requires p_near { IsNear p }
     requires q_near { IsNear q }
-    ensures { IsTrue result ↔ IsTrue (are_left folded.now.points p q (ring_at faces.now.rings f)) }
+    ensures { result ≡ are_left folded.now.points p q (ring_at faces.now.rings f) }
 {
     let _ = pattern.edges.as_slice().len();
     let ring = faces.rings.as_slice()[f as usize].as_slice();

@@ -6,63 +6,13 @@ ghost use Rattle.ff_types.specs.declared.refusals.No.TheVariants.{NoMemory as no
 ghost use Rattle.ff_edges.specs.Extents.{IsExtent, IsAround, IsWithin, IsBeside, IsTouching};
 
 use ff_types::No;
-use ff_whole::{POINT_SIZE, Pt};
+use ff_whole::{POINT_SIZE, Pt, high_of, low_of};
 
 /// How far something reaches: from its least to its greatest x and y.
 #[derive(Clone, Copy, Debug, PartialEq, Eq)]
 pub struct Extent {
     pub low: Pt,
     pub high: Pt,
-}
-
-fn lesser(a: i64, b: i64) -> i64
-    requires a_size { IsBelow POINT_SIZE a }
-    requires b_size { IsBelow POINT_SIZE b }
-    ensures first { result ≤ℤ a }
-    ensures second { result ≤ℤ b }
-    ensures size { IsBelow POINT_SIZE result }
-{
-    if a < b { a } else { b }
-}
-
-fn greater(a: i64, b: i64) -> i64
-    requires a_size { IsBelow POINT_SIZE a }
-    requires b_size { IsBelow POINT_SIZE b }
-    ensures first { a ≤ℤ result }
-    ensures second { b ≤ℤ result }
-    ensures size { IsBelow POINT_SIZE result }
-{
-    if a < b { b } else { a }
-}
-
-fn low_of(p: Pt, q: Pt) -> Pt
-    requires p_near { IsNear p }
-    requires q_near { IsNear q }
-    ensures near { IsNear result }
-    ensures first_x { result.x ≤ℤ p.x }
-    ensures second_x { result.x ≤ℤ q.x }
-    ensures first_y { result.y ≤ℤ p.y }
-    ensures second_y { result.y ≤ℤ q.y }
-{
-    Pt {
-        x: lesser(p.x, q.x),
-        y: lesser(p.y, q.y),
-    }
-}
-
-fn high_of(p: Pt, q: Pt) -> Pt
-    requires p_near { IsNear p }
-    requires q_near { IsNear q }
-    ensures near { IsNear result }
-    ensures first_x { p.x ≤ℤ result.x }
-    ensures second_x { q.x ≤ℤ result.x }
-    ensures first_y { p.y ≤ℤ result.y }
-    ensures second_y { q.y ≤ℤ result.y }
-{
-    Pt {
-        x: greater(p.x, q.x),
-        y: greater(p.y, q.y),
-    }
 }
 
 /// Reaches as far as both.

@@ -17,6 +17,7 @@ mod shared;
 mod sides;
 
 pub use along::edge_pairs;
+pub use beside::{ends, face_left};
 pub use crossed::edge_faces;
 pub use edge_face::EdgeFace;
 pub use edge_pair::EdgePair;

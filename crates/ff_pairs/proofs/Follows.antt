@@ -3,8 +3,9 @@ use Rattle.std.proofs.Common.{◌≡◌, ℕ, ◌+◌, ◌<◌, ◌≤◌, ◌�
 use Rattle.std.specs.List.{Contains}
 use Rattle.std.specs.List.Sorted.{IsStrictlyIncreasing}
 use Rattle.std.proofs.lemmas.List.Kept.{AllPairs-from_increasing}
+use Rattle.ff_basics.proofs.Numbers.{last_or}
 use Rattle.ff_pairs.specs.Tables.{is_marked, Adds, StandsAt, IsAside, IsOrdered, AreAllMarked}
-use Rattle.ff_pairs.proofs.Marks.{below_or, stands_is}
+use Rattle.ff_pairs.proofs.Marks.{stands_is}
 
 -- ---- the order of a list
 
@@ -45,7 +46,7 @@ module _ (w : ℕ) (old : List Bool) (before faces : List ℕ) where
     long = d.long;
     kept = d.kept;
     only = d.only;
-    each = λ k l. elim (below_or k i l) [ inl m ↦ d.each k m | inr e ↦ inl (subst (λ n. Contains before (get_or faces n 0)) (sym e) c) ];
+    each = λ k l. elim (last_or k i l) [ inl m ↦ d.each k m | inr e ↦ inl (subst (λ n. Contains before (get_or faces n 0)) (sym e) c) ];
   }
 
   -- a face that is marked
@@ -54,7 +55,7 @@ module _ (w : ℕ) (old : List Bool) (before faces : List ℕ) where
     long = a.long ∙ d.long;
     kept = λ f h p q t. (a.adds f h p q).1 (inl (d.kept f h p q t));
     only = λ f h p q t. elim ((a.adds f h p q).0 t) [ inl u ↦ d.only f h p q u | inr u ↦ inr (aside_ordered faces i f h u) ];
-    each = λ k l. elim (below_or k i l) [
+    each = λ k l. elim (last_or k i l) [
       | inl m ↦ elim (d.each k m) [ inl c ↦ inl c | inr all ↦ inr (λ f h p q t. (a.adds f h p q).1 (inl (all f h p q t))) ]
       | inr e ↦ inr (λ f h p q t. (a.adds f h p q).1 (inr (subst (λ n. IsAside faces n f h) e t)))
     ];

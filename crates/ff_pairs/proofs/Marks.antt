@@ -6,6 +6,7 @@ use Rattle.std.proofs.Math.ListN.{length-set}
 use Rattle.std.proofs.lemmas.Nat.{div-mul-add, mul-add-lt}
 use Rattle.std.proofs.lemmas.Grind.{get_or-set_at}
 use Rattle.std.proofs.lemmas.List.{get_or-set_other, get_or_default}
+use Rattle.ff_basics.proofs.Numbers.{last_or}
 use Rattle.ff_cells.specs.declared.cell.Cell.{Cell}
 use Rattle.ff_pairs.specs.Tables.{is_marked, Adds, StandsAt, IsBehind, IsAhead, IsOrdered, IsInCells}
 
@@ -49,9 +50,6 @@ mark_more w old mid new R S T a b k = record { long = b.long ∙ a.long; adds = 
     | inr u ↦ (b.adds f h p q).1 (inr u)
   ]
 
-pub below_or : (k n : ℕ) → k < n + 1 → (k < n) ⊎ (k ≡ n)
-below_or k n l = grind (arith, l)
-
 -- ---- the faces behind one of a list
 
 pub none_behind : (faces : List ℕ) (i f h : ℕ) → IsBehind faces i (i + 1) f h → ⊥
@@ -67,7 +65,7 @@ pub more_behind : (faces : List ℕ) (i j f h : ℕ) → i < j → j < length fa
     → IsBehind faces i (j + 1) f h ↔ (IsBehind faces i j f h ⊎ ((f ≡ get_or faces i 0) × (h ≡ get_or faces j 0)))
 more_behind faces i j f h lt within = (there, back) where
   there : IsBehind faces i (j + 1) f h → IsBehind faces i j f h ⊎ ((f ≡ get_or faces i 0) × (h ≡ get_or faces j 0))
-  there (s, (k, l, m, t)) = elim (below_or k j m) [ inl e ↦ inl (s, (k, l, e, t)) | inr e ↦ inr (stands_is faces i f s, stands_is faces j h (subst (λ n. StandsAt faces n h) e t)) ]
+  there (s, (k, l, m, t)) = elim (last_or k j m) [ inl e ↦ inl (s, (k, l, e, t)) | inr e ↦ inr (stands_is faces i f s, stands_is faces j h (subst (λ n. StandsAt faces n h) e t)) ]
 
   back : IsBehind faces i j f h ⊎ ((f ≡ get_or faces i 0) × (h ≡ get_or faces j 0)) → IsBehind faces i (j + 1) f h
   back (inl (s, (k, l, m, t))) = (s, (k, l, omega (arith, m), t))
@@ -82,7 +80,7 @@ pub more_ahead : (faces : List ℕ) (i j f h : ℕ) → j < i → i < length fac
     → IsAhead faces i (j + 1) f h ↔ (IsAhead faces i j f h ⊎ ((f ≡ get_or faces j 0) × (h ≡ get_or faces i 0)))
 more_ahead faces i j f h lt within = (there, back) where
   there : IsAhead faces i (j + 1) f h → IsAhead faces i j f h ⊎ ((f ≡ get_or faces j 0) × (h ≡ get_or faces i 0))
-  there (s, (k, l, m, t)) = elim (below_or k j m) [ inl e ↦ inl (s, (k, l, e, t)) | inr e ↦ inr (stands_is faces j f (subst (λ n. StandsAt faces n f) e t), stands_is faces i h s) ]
+  there (s, (k, l, m, t)) = elim (last_or k j m) [ inl e ↦ inl (s, (k, l, e, t)) | inr e ↦ inr (stands_is faces j f (subst (λ n. StandsAt faces n f) e t), stands_is faces i h s) ]
 
   back : IsAhead faces i j f h ⊎ ((f ≡ get_or faces j 0) × (h ≡ get_or faces i 0)) → IsAhead faces i (j + 1) f h
   back (inl (s, (k, l, m, t))) = (s, (k, l, omega (arith, m), t))
@@ -97,7 +95,7 @@ pub more_in_cells : (cells : List Cell) (n : ℕ) (c : Cell) (f h : ℕ) → sli
     → IsInCells cells (n + 1) f h ↔ (IsInCells cells n f h ⊎ IsOrdered c.faces (length c.faces) f h)
 more_in_cells cells n c f h at = (there, back) where
   there : IsInCells cells (n + 1) f h → IsInCells cells n f h ⊎ IsOrdered c.faces (length c.faces) f h
-  there (k, d, l, e, o) = elim (below_or k n l) [
+  there (k, d, l, e, o) = elim (last_or k n l) [
     | inl m ↦ inl (k, d, m, e, o)
     | inr m ↦ inr (subst (λ (z : Cell). IsOrdered z.faces (length z.faces) f h) (same_cell d c (sym e ∙ ap (slice_get cells) m ∙ at)) o)
   ]

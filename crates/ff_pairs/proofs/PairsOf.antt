@@ -7,10 +7,12 @@ use Rattle.std.proofs.Math.Seq.{take-append_seam}
 use Rattle.std.proofs.lemmas.Bool.{ltb-true, ltb-false, false≢true}
 use Rattle.std.proofs.lemmas.List.{get_or-replicate}
 use Rattle.std.proofs.lemmas.Option.{slice_get-get_or, slice_get_within, get_or_from_slice_get}
+use Rattle.ff_basics.proofs.Memberships.{filter_in, in_filter, range_in}
+use Rattle.ff_basics.proofs.Tests.{both_of, of_both}
+use Rattle.ff_basics.proofs.Lists.{member_some}
 use Rattle.ff_whole.specs.declared.places.Place.{Place}
 use Rattle.ff_types.specs.Sheets.{Sheet, faces_of, is_face}
 use Rattle.ff_types.specs.Inside.{is_inside, over, Overlap}
-use Rattle.ff_types.proofs.Memberships.{in_filter, filter_in, range_in}
 use Rattle.ff_cells.specs.declared.cell.Cell.{Cell}
 use Rattle.ff_cells.specs.FaceSets.{IsFaceList, IsFaceSet, HaveFaceSets}
 use Rattle.ff_pairs.specs.Together.{AreTogether, ArePairsOf, IsListed}
@@ -43,19 +45,8 @@ together_in cells n f h (k, c, l, e, (i, m, (s, (j, o, p, t)))) = record {
 
 -- ---- together in a cell, and over a common place
 
-both : (a b : Bool) → IsTrue (a && b) → IsTrue a × IsTrue b
-both true b t = (refl, t)
-both false b t = absurd (false≢true t)
-
-and_both : (a b : Bool) → IsTrue a → IsTrue b → IsTrue (a && b)
-and_both true b s t = t
-and_both false b s t = absurd (false≢true s)
-
 pub over_has : (g : Sheet) (s : Place) (f : ℕ) → IsTrue (is_inside g f s) → Contains (over g s) f
-over_has g s f t = filter_in (λ f. is_inside g f s) (faces_of g) f (range_in 0 (length g.rings) f (omega arith) (let l = ltb-true f (length g.rings) (both (is_face g f) _ t).0 in omega (arith, l))) t
-
-some_in : (xs : List ℕ) (f : ℕ) → Contains xs f → 0 < length xs
-some_in xs f (k, l, e) = omega (arith, l)
+over_has g s f t = filter_in (λ f. is_inside g f s) (faces_of g) f (range_in 0 (length g.rings) f (omega arith) (let l = ltb-true f (length g.rings) (both_of (is_face g f) _ t).0 in omega (arith, l))) t
 
 pub together_from_overlap : (g : Sheet) (cells : List Cell) → HaveFaceSets g cells → (f h : ℕ) → Overlap g f h → AreTogether cells f h
 together_from_overlap g cells have f h o = record { cell = r.0; there = r.1; first = r.2 f in_f; second = r.2 h in_h } where
@@ -63,18 +54,18 @@ together_from_overlap g cells have f h o = record { cell = r.0; there = r.1; fir
   s = o.common.at
 
   in_f : Contains (over g s) f
-  in_f = over_has g s f (both (is_inside g f s) _ o.common.inside).0
+  in_f = over_has g s f (both_of (is_inside g f s) _ o.common.inside).0
 
   in_h : Contains (over g s) h
-  in_h = over_has g s h (both (is_inside g h s) true (both (is_inside g f s) _ o.common.inside).1).0
+  in_h = over_has g s h (both_of (is_inside g h s) true (both_of (is_inside g f s) _ o.common.inside).1).0
 
   r : (c : Cell) × Contains cells c × ((f : ℕ) → Contains (over g s) f → Contains c.faces f)
-  r = have.together s o.common.place (some_in (over g s) f in_f)
+  r = have.together s o.common.place (member_some (over g s) f in_f)
 
 pub overlap_from_together : (g : Sheet) (cells : List Cell) → HaveFaceSets g cells → (f h : ℕ) → f < h → AreTogether cells f h → Overlap g f h
 overlap_from_together g cells have f h lt t = record {
   differ = λ e. omega (arith, lt, e);
-  common = record { at = s; place = set.place; inside = and_both (is_inside g f s) _ (inside f t.first) (and_both (is_inside g h s) true (inside h t.second) refl) };
+  common = record { at = s; place = set.place; inside = of_both (is_inside g f s) _ (inside f t.first) (of_both (is_inside g h s) true (inside h t.second) refl) };
 } where
   set : IsFaceSet g t.cell.faces
   set = (have.each t.cell t.there).faces

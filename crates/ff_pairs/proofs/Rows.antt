@@ -1,9 +1,10 @@
 -- Pairs listed from a table of flags, one after the other.
 use Rattle.std.proofs.Common.{◌≡◌, ℕ, zero, suc, ◌+◌, ◌<◌, ◌==◌, ◌&&◌, ◌||◌, ◌⊎◌, Bool, true, false, List, [], ◌∷◌, ◌++◌, length, refl, sym, ◌∙◌, ap, subst, inl, inr, arith, IsTrue, Some, slice_get, nat_lt}
 use Rattle.std.proofs.lemmas.Bool.{lt-ltb}
-use Rattle.std.proofs.lemmas.Option.{slice_get_within}
+use Rattle.std.proofs.lemmas.Option.{slice_get_within, same_Some}
+use Rattle.ff_basics.proofs.Numbers.{same_number}
+use Rattle.ff_basics.proofs.Lists.{get_before, get_either, get_last}
 use Rattle.ff_types.specs.Pairs.{is_before}
-use Rattle.ff_types.proofs.Computing.{equal_itself}
 use Rattle.ff_pairs.specs.Together.{IsListed}
 use Rattle.ff_pairs.specs.Tables.{is_marked, IsPrior, AreMarked, IsListedTo}
 
@@ -11,31 +12,13 @@ before_by : (p q : ℕ × ℕ) → IsPrior p q.0 q.1 → IsTrue (is_before p q)
 before_by p q (inl h) = rw (lt-ltb p.0 q.0 h) refl
 before_by p q (inr (e, h)) = by (nat_lt p.0 q.0) where
   same : IsTrue (p.0 == q.0 && nat_lt p.1 q.1)
-  same = rw (e, equal_itself q.0, lt-ltb p.1 q.1 h) refl
+  same = rw (e, same_number q.0, lt-ltb p.1 q.1 h) refl
 
   by : (b : Bool) → IsTrue (b || (p.0 == q.0 && nat_lt p.1 q.1))
   by true = refl
   by false = same
 
 -- ---- a list with one more
-
-some_of : {A : Type 0} (x y : A) → Some x ≡ Some y → x ≡ y
-some_of x y e = cc
-
-pub get_before : {A : Type 0} (xs : List A) (y x : A) (n : ℕ) → slice_get xs n ≡ Some x → slice_get (xs ++ y ∷ []) n ≡ Some x
-get_before [] y x n e = absurd (omega (arith, slice_get_within [] n x e))
-get_before (z ∷ xs) y x zero e = e
-get_before (z ∷ xs) y x (suc n) e = get_before xs y x n e
-
-pub get_last : {A : Type 0} (xs : List A) (y : A) → slice_get (xs ++ y ∷ []) (length xs) ≡ Some y
-get_last [] y = refl
-get_last (z ∷ xs) y = get_last xs y
-
-pub get_either : {A : Type 0} (xs : List A) (y x : A) (n : ℕ) → slice_get (xs ++ y ∷ []) n ≡ Some x → (slice_get xs n ≡ Some x) ⊎ ((n ≡ length xs) × (x ≡ y))
-get_either [] y x zero e = inr (refl, sym (some_of y x e))
-get_either [] y x (suc n) e = absurd (omega (arith, slice_get_within [] n x e))
-get_either (z ∷ xs) y x zero e = inl e
-get_either (z ∷ xs) y x (suc n) e = elim (get_either xs y x n e) [ inl d ↦ inl d | inr d ↦ inr (ap suc d.0, d.1) ]
 
 -- ---- the steps
 

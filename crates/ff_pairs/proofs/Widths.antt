@@ -3,7 +3,7 @@ use Rattle.std.proofs.Common.{◌≡◌, ℕ, zero, suc, ◌+◌, ◌-◌, ◌<�
 use Rattle.std.specs.List.{All}
 use Rattle.std.specs.List.Sorted.{IsStrictlyIncreasing}
 use Rattle.std.proofs.lemmas.List.{get_or_default}
-use Rattle.std.proofs.lemmas.Option.{slice_get-get_or}
+use Rattle.std.proofs.lemmas.Option.{slice_get-get_or, same_Some}
 use Rattle.ff_types.specs.declared.limits.TheConstants.{MOST_FACES}
 use Rattle.ff_cells.specs.declared.cell.Cell.{Cell}
 
@@ -29,13 +29,10 @@ below_last xs up some w last k d l = subst (λ x. x < w) (get_or_default xs k 0 
 pub wider : (w v : ℕ) (xs : List ℕ) → w ≤ v → All (λ f. f < w) xs → All (λ f. f < v) xs
 wider w v xs le all k d l = let a = all k d l in omega (arith, le, a)
 
-some_of : {A : Type 0} (x y : A) → Some x ≡ Some y → x ≡ y
-some_of x y e = cc
-
 pub one_more : (cells : List Cell) (k w v : ℕ) (c : Cell) → slice_get cells k ≡ Some c → w ≤ v → All (λ f. f < v) c.faces → AreBelow cells k w → AreBelow cells (k + 1) v
 one_more cells k w v c at le this before i d l e = elim (either l) [
   | inl m ↦ wider w v d.faces le (before i d m e)
-  | inr m ↦ subst (λ (z : Cell). All (λ f. f < v) z.faces) (some_of c d (sym at ∙ ap (slice_get cells) (sym m) ∙ e)) this
+  | inr m ↦ subst (λ (z : Cell). All (λ f. f < v) z.faces) (same_Some c d (sym at ∙ ap (slice_get cells) (sym m) ∙ e)) this
 ] where
   either : i < k + 1 → (i < k) ⊎ (i ≡ k)
   either l = grind (arith, l)

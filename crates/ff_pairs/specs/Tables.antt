@@ -5,6 +5,7 @@ use Rattle.ff_types.specs.Pairs.{AreSorted}
 use Rattle.ff_cells.specs.declared.cell.Cell.{Cell}
 use Rattle.ff_pairs.specs.Together.{IsListed}
 
+-- the pair is marked in the table
 abbrev pub is_marked : ℕ → List Bool → ℕ → ℕ → Bool
 is_marked width table f h = slice_index_or table (f * width + h) false
 

@@ -31,7 +31,7 @@ pub record ArePairsOf (cells : List Cell) (list : List (ℕ × ℕ)) : Type 0 wh
   pub overlap : (g : Sheet) → HaveFaceSets g cells → (f h : ℕ) → f < h → Overlap g f h ↔ IsListed list f h
 
 -- Why there are no pairs: there are more than the limit, or memory was refused.
-abbrev pub AreNoPairs : List Cell → No → Type 0
-AreNoPairs cells NoMemory = Unit {0}
-AreNoPairs cells (Refused r) = (r ≡ TooMany Pairs MOST_PAIRS)
+abbrev pub WhyNoPairs : List Cell → No → Type 0
+WhyNoPairs cells NoMemory = Unit {0}
+WhyNoPairs cells (Refused r) = (r ≡ TooMany Pairs MOST_PAIRS)
     × ((list : List (ℕ × ℕ)) × ArePairsOf cells list × (MOST_PAIRS < length list))

@@ -5,7 +5,7 @@ ghost use Rattle.std.specs.List.Sorted.{IsStrictlyIncreasing};
 ghost use Rattle.ff_types.specs.declared.limits.TheConstants.{MOST_FACES as most_faces};
 ghost use Rattle.ff_cells.specs.FaceSets.{IsFaceList};
 ghost use Rattle.ff_types.specs.declared.limits.TheConstants.{MOST_PAIRS as most_pairs};
-ghost use Rattle.ff_pairs.specs.Together.{ArePairsOf, AreNoPairs};
+ghost use Rattle.ff_pairs.specs.Together.{ArePairsOf, WhyNoPairs};
 
 use crate::listing::list_rows;
 use crate::marking::mark_cells;
@@ -61,7 +61,7 @@ pub fn pairs(alloc: Global, cells: &Items<Cell>) -> Result<Pairs, No>
     requires { All IsFaceList cells.now }
     ensures made { IfOk result (λ pairs. ArePairsOf cells.now pairs) }
     ensures few { IfOk result (λ pairs. length pairs ≤ most_pairs) }
-    ensures refused { IfErr result (AreNoPairs cells.now) }
+    ensures refused { IfErr result (WhyNoPairs cells.now) }
 {
     let list = list_pairs(alloc, cells.as_slice())?;
     if list.len() > MOST_PAIRS {

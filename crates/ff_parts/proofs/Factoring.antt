@@ -4,6 +4,8 @@ use Rattle.std.specs.List.{All}
 use Rattle.std.proofs.lemmas.Bool.{cases_eq, eq-eqb, ne_eqb}
 use Rattle.std.proofs.lemmas.List.{length-map, get_or-map, ext_get_or}
 use Rattle.std.proofs.lemmas.List.Elements.{filter_passes, All-filter, All-contains, All-append, All-map, All-weaker, All-cons, All-nil, Contains-append_left, Contains-append_right}
+use Rattle.ff_tables.proofs.SameOrders.{differ}
+use Rattle.ff_basics.proofs.Options.{some_none, some_or_none, some_same}
 use Rattle.ff_tables.specs.declared.orders.Order.{Order}
 use Rattle.ff_tables.specs.declared.orders.Order.TheVariants.{Below, Above}
 use Rattle.ff_tables.specs.declared.terms.Constraint.{Constraint}
@@ -22,21 +24,8 @@ use Rattle.ff_propagate.proofs.Joining.{Stands, AreDistinct, joint_out, joint_at
 use Rattle.ff_propagate.proofs.Quiet.{IsQuiet, closure_quiet, dead_forces, in_part, all_at, all_from, stands_contains, contains_stands}
 use Rattle.ff_parts.specs.Factors.{IsAllowed, Factors, FactorsFor}
 
-some_same : {s t : Order} → Some s ≡ Some t → s ≡ t
-some_same e = cc
-
-some_none : {A : Type 0} {o : Option Order} {s : Order} → o ≡ Some s → o ≡ None → A
-some_none p q = cc
-
-differ : {A : Type 0} {o : Option Order} → o ≡ Some Below → o ≡ Some Above → A
-differ p q = cc
-
 order_clash : {A : Type 0} {s : Order} → s ≡ Below → s ≡ Above → A
 order_clash p q = cc
-
-some_or_none : (o : Option Order) → ((s : Order) × (o ≡ Some s)) ⊎ (o ≡ None)
-some_or_none None = inr refl
-some_or_none (Some s) = inl (s, refl)
 
 -- an allowed assignment has the closure
 pub has_closure : (cons : List Constraint) (gs : List Given) (a : ℕ → Order) → IsAllowed cons gs a

@@ -2,6 +2,8 @@
 use Rattle.std.proofs.Common.{List, get_or, ◌≡◌, ℕ, zero, suc, ◌+◌, ◌<◌, ◌≤◌, ◌⊎◌, length, slice_get, slice_index, Option, Some, refl, sym, ap, ◌∙◌, subst, inl, inr, arith}
 use Rattle.std.proofs.lemmas.Option.{slice_get-get_or}
 use Rattle.std.proofs.lemmas.Bool.{cases_eq}
+use Rattle.ff_basics.proofs.Numbers.{scan}
+use Rattle.ff_basics.proofs.Options.{same_value}
 use Rattle.ff_tables.specs.declared.orders.Order.{Order}
 use Rattle.ff_tables.specs.declared.terms.Constraint.{Constraint}
 use Rattle.ff_tables.specs.Orders.{term_at}
@@ -9,18 +11,6 @@ use Rattle.ff_propagate.specs.Uses.{IsUse, IsFrom, IsIn}
 use Rattle.ff_parts.specs.declared.labels.Labels.{Labels}
 use Rattle.ff_parts.specs.Labels.{label, AreAlike, IsOwn, AreMixed, Rests, Ready, AreOf, Spreads, IsSpreading, AllLabelled, HasVar}
 use Rattle.ff_parts.proofs.Reaching.{spreads_trans}
-
--- some place below n has Q, or each has P
-scan : (P Q : ℕ → Type 0) (n : ℕ) → ((j : ℕ) → P j ⊎ Q j)
-    → ((j : ℕ) × (j < n) × Q j) ⊎ ((j : ℕ) → j < n → P j)
-scan P Q zero h = inr (λ j l. absurd (omega (arith, l)))
-scan P Q (suc n) h = elim (scan P Q n h) [
-  | inl r ↦ inl (r.0, omega (arith, r.1), r.2)
-  | inr all ↦ elim (h n) [
-    | inl p ↦ inr (λ j l. elim (cases_eq j n) [ inl e ↦ subst P (sym e) p | inr ne ↦ all j (omega (arith, l, ne)) ])
-    | inr q ↦ inl (n, omega arith, q)
-  ]
-]
 
 pub keeps : (value : ℕ → Option Order) (p : ℕ) (old new : Labels) (head : ℕ) (con : Constraint)
     → Spreads p old new → head ≤ length old.queue.items → Rests value old head con → Rests value new head con
@@ -90,9 +80,6 @@ ends cons value l head v k list z almost c con at = sort (almost c con at)
     sort (inl p) = p
     sort (inr (has, (j, a, b, e))) = absurd (omega (arith, a, b, z))
 
-pub same_con : {o : Option Constraint} {a b : Constraint} → o ≡ Some a → o ≡ Some b → a ≡ b
-same_con p q = cc
-
 pub con_read : (cons cs : List Constraint) (k : ℕ) (con : Constraint) → cs ≡ cons → k < length cons
     → con ≡ get_or cs k con → slice_get cons k ≡ Some con
 con_read cons cs k con same l is = slice_get-get_or cons k con l
@@ -119,9 +106,9 @@ visit_on vars cons value p head v list k old now new con vis h at s x labelled =
   own = x.kept v (omega (arith, vis.own, s.some)) ∙ vis.own;
   almost = visits cons value p now new (head + 1) v k (slice_index list k) list x
       (omega (arith, h, vis.spreads.count)) refl vis.almost
-      (λ d there has. subst (λ q. Rests value new (head + 1) q) (same_con at there)
+      (λ d there has. subst (λ q. Rests value new (head + 1) q) (same_value at there)
       (inr (labelled_alike value p new con
-      (labelled (subst (λ q. HasVar q v) (same_con there at) has)) (s.mixed (slice_index list k) con at))));
+      (labelled (subst (λ q. HasVar q v) (same_value there at) has)) (s.mixed (slice_index list k) con at))));
 }
 
 -- what holds while the queue is gone through

@@ -4,7 +4,8 @@ use Rattle.std.specs.declared.alloc.Global.{Global}
 use Rattle.std.proofs.lemmas.Option.{slice_get_within, get_or_from_slice_get}
 use Rattle.std.proofs.lemmas.Bool.{cases_eq, eq-eqb, ne_eqb}
 use Rattle.std.proofs.lemmas.List.{map_push, get_or-map, replicate_more, get_or_append_left, get_or_push, length-append}
-use Rattle.ff_parts.specs.Gathers.{lists_in, members, Gathers, putting}
+use Rattle.ff_basics.specs.NumberedLists.{lists_in}
+use Rattle.ff_parts.specs.Gathers.{members, Gathers, putting}
 use Rattle.ff_propagate.proofs.Joining.{Stands}
 
 pub put_one : (lists : List (Vec ℕ Global)) (label v : ℕ) (old new : Vec ℕ Global) → 0 < label
@@ -38,11 +39,6 @@ member_isnt : (labels : List ℕ) (n k : ℕ) → (slice_index labels n ≡ k �
     → members labels (suc n) k ≡ members labels n k
 member_isnt labels n k ne = ap (λ b. if b then members labels n k ++ n ∷ [] else members labels n k)
     (ne_eqb (slice_index labels n) k ne)
-
-pub empty_on : (lists new : List (Vec ℕ Global)) (k : ℕ) (v : Vec ℕ Global) → lists_in lists ≡ replicate k []
-    → v.items ≡ [] → new ≡ lists ++ v ∷ [] → lists_in new ≡ replicate (k + 1) []
-empty_on lists new k v is none e = ap lists_in e ∙ map_push (λ (w : Vec ℕ Global). w.items) lists v
-    ∙ ap (λ ls. ls ++ v.items ∷ []) is ∙ ap (λ xs. replicate k [] ++ xs ∷ []) none ∙ replicate_more k []
 
 -- what a member is
 abbrev pub IsMember : List ℕ → ℕ → ℕ → ℕ → Type 0

@@ -3,9 +3,6 @@
 use Rattle.std.specs.Prelude.{◌≡◌, ℕ, zero, suc, ◌<◌, ◌==◌, ◌++◌, List, [], ◌∷◌, length, map, slice_index, slice_index_or, slice_set, if◌then◌else◌, Vec}
 use Rattle.std.specs.declared.alloc.Global.{Global}
 
-abbrev pub lists_in : List (Vec ℕ Global) → List (List ℕ)
-lists_in vs = map (λ v. v.items) vs
-
 -- of the numbers below n those at which the label stands, in increasing order
 abbrev pub members : List ℕ → ℕ → ℕ → List ℕ
 members labels zero k = []

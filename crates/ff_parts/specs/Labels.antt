@@ -47,6 +47,7 @@ AreMixed value p l con = (i j : ℕ) → i < length con.terms → j < length con
     → (label l (term_at con.terms i).var ≡ label l (term_at con.terms j).var)
     ⊎ (IsOwn p (label l (term_at con.terms i).var) × IsOwn p (label l (term_at con.terms j).var))
 
+-- so it is of each constraint
 abbrev pub AllMixed : List Constraint → (ℕ → Option Order) → ℕ → Labels → Type 0
 AllMixed cons value p l = (c : ℕ) (con : Constraint) → slice_get cons c ≡ Some con → AreMixed value p l con
 
@@ -55,9 +56,11 @@ abbrev pub Waits : Labels → ℕ → List Term → Type 0
 Waits l head ts = (i : ℕ) × (j : ℕ) × (head ≤ i) × (i < length l.queue.items) × (j < length ts)
     × (slice_index l.queue.items i ≡ (term_at ts j).var)
 
+-- the constraint waits, or its undecided variables are alike
 abbrev pub Rests : (ℕ → Option Order) → Labels → ℕ → Constraint → Type 0
 Rests value l head con = Waits l head con.terms ⊎ AreAlike value l con
 
+-- so it is of each constraint
 abbrev pub Ready : List Constraint → (ℕ → Option Order) → Labels → ℕ → Type 0
 Ready cons value l head = (c : ℕ) (con : Constraint) → slice_get cons c ≡ Some con → Rests value l head con
 
@@ -109,6 +112,7 @@ abbrev pub Reaches : (ℕ → Option Order) → ℕ → ℕ → Labels → Label
 Reaches value p v old new = ((value v ≡ None) × IsLabelled p v old new)
     ⊎ ((new ≡ old) × (value v ≡ None → 0 < label old v))
 
+-- the variable is one of the constraint's
 abbrev pub HasVar : Constraint → ℕ → Type 0
 HasVar con v = (i : ℕ) × (i < length con.terms) × ((term_at con.terms i).var ≡ v)
 

@@ -1,9 +1,9 @@
 //! The parts.
 ghost use Rattle.std.specs.Prelude.{◌≡◌, ℕ, ◌<◌, ◌≤◌, ◌^◌, IfOk, Some, length, map, slice_get};
+ghost use Rattle.ff_basics.specs.NumberedLists.{lists_in};
 ghost use Rattle.ff_propagate.specs.Facts.{value_at};
 ghost use Rattle.ff_propagate.specs.Parts.{AreParts, AreTouching, IsPart};
 ghost use Rattle.ff_propagate.specs.declared.parts.Part.{Part as PartSpec};
-ghost use Rattle.ff_parts.specs.Gathers.{lists_in};
 ghost use Rattle.ff_propagate.specs.Boards.{IsBoardOf};
 ghost use Rattle.ff_parts.specs.Labels.{IsBelow};
 ghost use Rattle.ff_parts.specs.Lists.{touching_of, vars_of};

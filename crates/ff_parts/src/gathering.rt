@@ -1,6 +1,7 @@
 //! The variables of each part, and the constraints.
 ghost use Rattle.std.specs.Prelude.{◌≡◌, ℕ, ◌+◌, ◌<◌, ◌≤◌, ◌^◌, ◌++◌, ◌∷◌, [], IfOk, List, length, map, replicate, slice_index, slice_index_or, slice_set};
-ghost use Rattle.ff_parts.specs.Gathers.{lists_in, Gathers, putting};
+ghost use Rattle.ff_basics.specs.NumberedLists.{lists_in};
+ghost use Rattle.ff_parts.specs.Gathers.{Gathers, putting};
 
 use ff_tables::NoMemory;
 use std::alloc::Global;

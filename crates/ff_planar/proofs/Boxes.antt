@@ -2,6 +2,8 @@
 use Rattle.std.proofs.Common.{◌≡◌, ◌⊎◌, inl, inr, ℕ, ◌+◌, ◌<◌, ◌≤◌, List, [], ◌∷◌, length, arith, refl, sym, ap, ◌∙◌, subst, ℤ, pos, neg_ℤ, ◌-ℤ◌, ◌<ℤ◌, ◌≤ℤ◌, ◌+ℤ◌, ◌*ℤ◌}
 use Rattle.std.proofs.lemmas.Int.{ints, by_lt_z}
 use Rattle.std.specs.List.Sorted.{IsPermutation}
+use Rattle.std.proofs.lemmas.Bool.{cases_lt}
+use Rattle.ff_basics.proofs.Numbers.{last_or}
 use Rattle.ff_whole.specs.declared.points.Pt.{Pt}
 use Rattle.ff_whole.specs.declared.lines.Line.{Line}
 use Rattle.ff_whole.specs.Points.{IsNear}
@@ -19,12 +21,6 @@ use Rattle.ff_drawn.proofs.VertexSpots.{same_each, same_all}
 use Rattle.ff_planar.specs.Reflex.{IsInside}
 use Rattle.ff_drawn.specs.Extents.{extent_at, IsAround, AreInOrder, IsVertexExtent, AreVertexExtents}
 use Rattle.ff_planar.specs.Frames.{IsAroundCorners, IsRingExtent, AreRingExtents, AreWest, HoldsNone, AreHollow, NoneInside}
-
-last_or : (k n : ℕ) → k < n + 1 → (k < n) ⊎ (k ≡ n)
-last_or k n l = grind arith
-
-below_or : (i n : ℕ) → (i < n) ⊎ (n ≤ i)
-below_or i n = grind arith
 
 -- how far a point is from the lines through p, south to north
 upwards : (p q : Pt) → height (record { a = pos 0; b = pos 1; c = p.y }) (place_of q) ≡ q.y -ℤ p.y
@@ -196,7 +192,7 @@ module _ (points : List Pt) (ring : List ℕ) (some : 0 < length ring) (frame : 
       which i j = grind arith
 
   pub holds_all : (start : ℕ) → start ≤ length spots → AreWest spots frame start → HoldsNone points ring spots start (length spots) → HoldsNone points ring spots 0 (length spots)
-  holds_all start l w h j m k = elim (below_or j start) [
+  holds_all start l w h j m k = elim (cases_lt j start) [
     | inl x ↦ none_west points ring some frame a (extent_at spots j) (s.each j k) (w j x)
     | inr x ↦ h j x k
   ]

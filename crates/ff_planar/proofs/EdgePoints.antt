@@ -6,6 +6,7 @@ use lib.IntN.{neg_ℤ}
 use Rattle.std.proofs.lemmas.Int.{ints}
 use Rattle.std.specs.List.{All, Contains}
 use Rattle.std.proofs.lemmas.List.Elements.{All-cons, All-head, All-tail, All-nil}
+use Rattle.ff_basics.proofs.Numbers.{below_or_last}
 use Rattle.ff_whole.proofs.Laws.{*ℤ-distrib_left}
 use Rattle.ff_whole.proofs.Ring.{var, num, ◌⊕◌, ◌⊗◌, opp, solve}
 use Rattle.ff_whole.proofs.Signs.{linear, pos-mul, nonneg-mul}
@@ -31,9 +32,6 @@ lines f (suc n) = f n ∷ lines f n
 lines_all : (P : Line → Type 0) (f : ℕ → Line) (n : ℕ) → ((i : ℕ) → i < n → P (f i)) → All P (lines f n)
 lines_all P f zero h = All-nil P
 lines_all P f (suc n) h = All-cons P (f n) (lines f n) (h n (omega arith)) (lines_all P f n (λ i l. h i (omega (arith, l))))
-
-below_or_last : (n i : ℕ) → i < suc n → (i < n) ⊎ (i ≡ n)
-below_or_last n i l = grind arith
 
 lines_each : (P : Line → Type 0) (f : ℕ → Line) (n : ℕ) → All P (lines f n) → (i : ℕ) → i < n → P (f i)
 lines_each P f zero h i l = absurd (omega (arith, l))

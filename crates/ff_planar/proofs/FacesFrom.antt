@@ -1,5 +1,6 @@
 -- Where no refusal comes, the rings are the faces of the drawing.
 use Rattle.std.proofs.Common.{◌≡◌, ◌≢◌, ◌⊎◌, inl, inr, ℕ, ◌<◌, IsTrue, List, length, arith, refl, sym, subst, pos, ◌≤ℤ◌, Option, Some, None}
+use Rattle.ff_basics.proofs.Numbers.{same_or, which}
 use Rattle.ff_whole.specs.declared.points.Pt.{Pt}
 use Rattle.ff_whole.specs.Convex.{next}
 use Rattle.ff_whole.proofs.ClosedLists.{next-below}
@@ -28,12 +29,6 @@ use Rattle.ff_planar.proofs.Chains.{chained_on, chained_back}
 use Rattle.ff_planar.proofs.Rims.{ring_side, rim_from}
 use Rattle.ff_planar.proofs.RingTests.{reflex_from, enclosed_from, walk_there}
 use Rattle.ff_planar.proofs.RingsFrom.{ring_from}
-
-which : (i j : ℕ) → (i < j) ⊎ ((j < i) ⊎ (i ≡ j))
-which i j = grind arith
-
-same_or : (w z : ℕ) → (w ≢ z) ⊎ (w ≡ z)
-same_or w z = elim (which w z) [ inl l ↦ inl (λ e. omega (arith, l, e)) | inr o ↦ elim o [ inl l ↦ inl (λ e. omega (arith, l, e)) | inr e ↦ inr e ] ]
 
 module _ (points : List Pt) (edges : List EdgeEnds) (darts : List Dart) (dr : IsDrawnBy points edges darts) (rings : List (List ℕ)) (sides : List Side) (t : AreTraced points edges darts rings sides)
     (no_pinch : Never (PinchAt points edges)) (no_reflex : Never (ReflexAt points edges)) (no_enclosed : Never (EnclosedAt points edges)) where

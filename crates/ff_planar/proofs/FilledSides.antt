@@ -1,6 +1,7 @@
 -- Sides given to darts one after the other.
 use Rattle.std.proofs.Common.{◌≡◌, ◌≢◌, ◌⊎◌, inl, inr, ℕ, ◌+◌, ◌<◌, ◌≤◌, List, length, slice_index, slice_set, arith, refl, sym, ap, ◌∙◌}
 use Rattle.std.proofs.lemmas.List.{get_or-set_same, get_or-set_other, length-set}
+use Rattle.ff_basics.proofs.Numbers.{last_or, same_or}
 use Rattle.ff_planar.specs.declared.traces.Side.{Side}
 use Rattle.ff_planar.specs.declared.traces.Side.TheVariants.{Unmet}
 use Rattle.ff_planar.specs.Traces.{side_at, Fills}
@@ -10,14 +11,6 @@ pub record FillsTo (old : List Side) (orbit : List ℕ) (n : ℕ) (side : Side) 
   pub as_many : length new ≡ length old
   pub on : (i : ℕ) → i < n → side_at new (slice_index orbit i) ≡ side
   pub off : (d : ℕ) → ((i : ℕ) → i < n → slice_index orbit i ≡ d → ⊥) → side_at new d ≡ side_at old d
-
-last_or : (k n : ℕ) → k < n + 1 → (k < n) ⊎ (k ≡ n)
-last_or k n l = grind arith
-
-same_or : (w z : ℕ) → (w ≢ z) ⊎ (w ≡ z)
-same_or w z = elim (which w z) [ inl l ↦ inl (λ e. omega (arith, l, e)) | inr o ↦ elim o [ inl l ↦ inl (λ e. omega (arith, l, e)) | inr e ↦ inr e ] ] where
-  which : (i j : ℕ) → (i < j) ⊎ ((j < i) ⊎ (i ≡ j))
-  which i j = grind arith
 
 pub fill_more : (old : List Side) (orbit : List ℕ) (n : ℕ) (side : Side) (new : List Side) → FillsTo old orbit n side new → slice_index orbit n < length old
     → FillsTo old orbit (n + 1) side (slice_set new (slice_index orbit n) side)

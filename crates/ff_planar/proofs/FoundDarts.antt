@@ -1,6 +1,7 @@
 -- Halving finds a dart that is there.
 use Rattle.std.proofs.Common.{◌≡◌, ◌⊎◌, inl, inr, ℕ, ◌+◌, ◌<◌, IsTrue, List, [], ◌∷◌, ◌++◌, length, arith, sym, ◌∙◌, subst}
 use Rattle.std.proofs.lemmas.List.{get_or_append_left, get_or_push}
+use Rattle.ff_basics.proofs.Numbers.{last_or}
 use Rattle.ff_whole.specs.declared.points.Pt.{Pt}
 use Rattle.ff_types.specs.declared.patterns.EdgeEnds.{EdgeEnds}
 use Rattle.ff_types.specs.declared.faces.EdgeSides.{EdgeSides}
@@ -39,9 +40,6 @@ known_side points edges darts rings sides u v s dr t j i = let f = found edges d
 
 pub along_edge : (edges : List EdgeEnds) (e : ℕ) → e < length edges → IsTrue (joined edges (edge_at edges e).a (edge_at edges e).b)
 along_edge edges e l = joined_at edges e _ _ l (joins_itself (edge_at edges e).a (edge_at edges e).b)
-
-last_or : (k n : ℕ) → k < n + 1 → (k < n) ⊎ (k ≡ n)
-last_or k n l = grind arith
 
 pub seen_more : (points : List Pt) (edges : List EdgeEnds) (rings : List (List ℕ)) (seen : List EdgeSides) (e : ℕ) (new : EdgeSides) → length seen ≡ e
     → ((k : ℕ) → k < e → AreSeen points edges rings (edge_at edges k) (sides_at seen k)) → AreSeen points edges rings (edge_at edges e) new

@@ -1,6 +1,7 @@
 -- The faces that are given are those of the drawing.
 use Rattle.std.proofs.Common.{◌≡◌, ◌⊎◌, inl, inr, ℕ, ◌+◌, ◌<◌, ◌≤◌, List, [], ◌∷◌, ◌++◌, length, Option, Some, None, arith, sym, ap, ◌∙◌, subst}
 use Rattle.std.proofs.lemmas.List.{get_or_append_left, get_or_push}
+use Rattle.ff_basics.proofs.Numbers.{last_or}
 use Rattle.ff_whole.specs.declared.points.Pt.{Pt}
 use Rattle.ff_types.specs.declared.patterns.EdgeEnds.{EdgeEnds}
 use Rattle.ff_types.specs.declared.patterns.Mark.{Mark}
@@ -11,12 +12,9 @@ use Rattle.ff_types.specs.declared.refusals.No.TheVariants as no
 use Rattle.ff_types.specs.Faces.{mark_at, AreRings}
 use Rattle.ff_types.specs.Sides.{sides_at, IsFaceOf, IsMarkOf, AreFaces}
 use Rattle.ff_planar.specs.Seen.{IsSeenOf}
-use Rattle.ff_planar.specs.Given.{IsFound, IsNotFound, IsNoFaces, AreFilled}
+use Rattle.ff_planar.specs.Given.{IsFound, IsNotFound, WhyNoFaces, AreFilled}
 use Rattle.ff_planar.proofs.FacesWalks.{not_outside}
 use Rattle.ff_planar.proofs.FacesOnce.{faces_once}
-
-last_or : (k n : ℕ) → k < n + 1 → (k < n) ⊎ (k ≡ n)
-last_or k n l = grind arith
 
 pub mark_more : (marks : Option (List Mark)) (seen : List EdgeSides) (filled : List Mark) (e : ℕ) (new : Mark) → length filled ≡ e → ((k : ℕ) → k < e → IsMarkOf marks k (sides_at seen k) (mark_at filled k))
     → IsMarkOf marks e (sides_at seen e) new → (k : ℕ) → k < e + 1 → IsMarkOf marks k (sides_at seen k) (mark_at (filled ++ new ∷ []) k)
@@ -44,6 +42,6 @@ module _ (points : List Pt) (edges : List EdgeEnds) (marks : Option (List Mark))
   too_many l others a m = let n = ap length (faces_once points edges f.drawing marks rings others f.found.rings_are a) in omega (arith, l, m, n)
 
 -- what wasn't found isn't within the limit
-pub no_faces : (points : List Pt) (edges : List EdgeEnds) (marks : Option (List Mark)) (n : No) → IsNotFound points edges marks n → IsNoFaces points edges marks n
+pub no_faces : (points : List Pt) (edges : List EdgeEnds) (marks : Option (List Mark)) (n : No) → IsNotFound points edges marks n → WhyNoFaces points edges marks n
 no_faces points edges marks (no.Refused r) h = (h.0, λ d rings a m. h.1 d rings a)
 no_faces points edges marks no.NoMemory h = h

@@ -4,6 +4,7 @@ use Rattle.std.specs.Prelude.{int_lt}
 use borrow.Author.Differences.{true_is_lt}
 use Rattle.std.proofs.lemmas.Int.{ints}
 use Rattle.std.proofs.lemmas.Bool.{false≢true}
+use Rattle.ff_basics.proofs.Tests.{both_of, either_of, lt_from, of_first, of_second, to_lt}
 use Rattle.ff_whole.proofs.Signs.{linear, by_sign}
 use Rattle.ff_whole.proofs.Images.{distance_positive}
 use Rattle.ff_whole.proofs.ThreeTerms.{parallel-product}
@@ -17,7 +18,6 @@ use Rattle.ff_types.specs.declared.patterns.EdgeEnds.{EdgeEnds}
 use Rattle.ff_types.specs.Patterns.{edge_at}
 use Rattle.ff_types.specs.Drawings.{IsEnd, joins, joined, IsDrawing}
 use Rattle.ff_types.specs.Walks.{in_turn, direction, GoesOn}
-use Rattle.ff_types.proofs.Computing.{both, either}
 use Rattle.ff_types.proofs.ComputedFaces.{joins_is}
 use Rattle.ff_types.proofs.PlainSheets.{some_joins, joined_at}
 use Rattle.ff_drawn.proofs.EdgeCrossings.{end_not_within}
@@ -25,36 +25,22 @@ use Rattle.ff_drawn.proofs.TwoDarts.{joins_back}
 
 -- ---- the test of three directions
 
-is_pos : (z : ℤ) → IsTrue (int_lt (pos 0) z) → pos 0 <ℤ z
-is_pos z h = omega (arith, ints)
-
-pos_is : (z : ℤ) → pos 0 <ℤ z → IsTrue (int_lt (pos 0) z)
-pos_is z h = sym (true_is_lt (pos 0) z (omega (arith, ints)))
-
 two_so : (x y : ℤ) → IsTrue (int_lt (pos 0) x && int_lt (pos 0) y) → (pos 0 <ℤ x) × (pos 0 <ℤ y)
-two_so x y h = let b = both _ _ h in (is_pos x b.0, is_pos y b.1)
+two_so x y h = let b = both_of _ _ h in (lt_from x b.0, lt_from y b.1)
 
 so_two : (x y : ℤ) → (pos 0 <ℤ x) × (pos 0 <ℤ y) → IsTrue (int_lt (pos 0) x && int_lt (pos 0) y)
-so_two x y h = rw (pos_is x h.0) (pos_is y h.1)
-
-or_last : (a b : Bool) → IsTrue b → IsTrue (a || b)
-or_last true b h = refl
-or_last false b h = h
-
-or_first : (a b : Bool) → IsTrue a → IsTrue (a || b)
-or_first true b h = refl
-or_first false b h = absurd (false≢true h)
+so_two x y h = rw (to_lt x h.0) (to_lt y h.1)
 
 pub turned_from : (a b c : Pt) → IsTrue (in_turn a b c) → IsTurned a b c
-turned_from a b c h = elim (either _ _ h) [
+turned_from a b c h = elim (either_of _ _ h) [
   | inl x ↦ inl (two_so _ _ x)
-  | inr x ↦ elim (either _ _ x) [ inl y ↦ inr (inl (two_so _ _ y)) | inr y ↦ inr (inr (two_so _ _ y)) ]
+  | inr x ↦ elim (either_of _ _ x) [ inl y ↦ inr (inl (two_so _ _ y)) | inr y ↦ inr (inr (two_so _ _ y)) ]
 ]
 
 pub from_turned : (a b c : Pt) → IsTurned a b c → IsTrue (in_turn a b c)
-from_turned a b c (inl x) = or_first _ _ (so_two _ _ x)
-from_turned a b c (inr (inl x)) = or_last _ _ (or_first _ _ (so_two _ _ x))
-from_turned a b c (inr (inr x)) = or_last _ _ (or_last _ _ (so_two _ _ x))
+from_turned a b c (inl x) = of_first _ _ (so_two _ _ x)
+from_turned a b c (inr (inl x)) = of_second _ _ (of_first _ _ (so_two _ _ x))
+from_turned a b c (inr (inr x)) = of_second _ _ (of_second _ _ (so_two _ _ x))
 
 -- ---- joined vertices
 
@@ -72,7 +58,7 @@ end_swap s t (inl e) = inr e
 end_swap s t (inr e) = inl e
 
 module _ (points : List Pt) (edges : List EdgeEnds) (d : IsDrawing points edges) where
-  -- both edges as they are written
+  -- both_of edges as they are written
   meet_at : (e k : ℕ) → e < length edges → k < length edges → e ≢ k → (u v w z : ℕ) → (s t x y : ℕ)
       → IsTrue (joins u v (edge_at edges e)) → IsTrue (joins w z (edge_at edges k))
       → IsMixed (point_at points u) (point_at points v) (point_at points w) (point_at points z) s t x y → IsEnd s t × IsEnd x y

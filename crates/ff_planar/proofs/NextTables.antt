@@ -1,6 +1,7 @@
 -- The table of next dart, one entry after the other, and that no two of its entries are alike.
 use Rattle.std.proofs.Common.{◌≡◌, ◌⊎◌, inl, inr, ℕ, ◌+◌, ◌<◌, List, [], ◌∷◌, ◌++◌, length, slice_index, arith, sym, ap, ◌∙◌, subst}
 use Rattle.std.proofs.lemmas.List.{get_or_append_left, get_or_push}
+use Rattle.ff_basics.proofs.Numbers.{last_or}
 use Rattle.ff_whole.specs.declared.points.Pt.{Pt}
 use Rattle.ff_types.specs.declared.patterns.EdgeEnds.{EdgeEnds}
 use Rattle.ff_types.specs.Walks.{GoesOn}
@@ -11,9 +12,6 @@ use Rattle.ff_planar.specs.Turns.{IsNext}
 use Rattle.ff_planar.specs.Orbits.{AreNexts, IsOneToOne}
 use Rattle.ff_drawn.proofs.Starts.{not_before_itself}
 use Rattle.ff_planar.proofs.Neighbours.{in_once}
-
-last_or : (k c : ℕ) → k < c + 1 → (k < c) ⊎ (k ≡ c)
-last_or k c l = grind arith
 
 pub next_more : (points : List Pt) (edges : List EdgeEnds) (darts : List Dart) (nexts : List ℕ) (d c : ℕ) → length nexts ≡ d → ((k : ℕ) → k < d → IsNext points edges darts k (slice_index nexts k))
     → IsNext points edges darts d c → (k : ℕ) → k < d + 1 → IsNext points edges darts k (slice_index (nexts ++ c ∷ []) k)

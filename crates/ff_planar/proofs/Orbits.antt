@@ -3,7 +3,7 @@ use Rattle.std.proofs.Common.{◌≡◌, ℕ, ◌+◌, ◌-◌, ◌<◌, ◌≤�
 use Rattle.std.proofs.lemmas.List.{get_or_append_left, get_or_push, length_push}
 use Rattle.std.proofs.lemmas.Map.Steps.{length-le_from_distinct_below}
 use Rattle.std.proofs.lemmas.Map.Keys.{IsDistinct-from_apart}
-use Rattle.std.proofs.lemmas.Bool.{ne_eqb}
+use Rattle.std.proofs.lemmas.Bool.{ne_eqb, cases_lt}
 use Rattle.std.proofs.Math.Dec.{eqb}
 use Rattle.std.proofs.Math.ListN.{get_or}
 use Rattle.std.specs.List.{list_any}
@@ -35,13 +35,8 @@ left_read w d i l = get_or_append_left w (d ∷ []) 0 i l
 pub last_read : (w : List ℕ) (d i : ℕ) → length w ≡ i → slice_index (w ++ d ∷ []) i ≡ d
 last_read w d i e = get_or_push w d 0 i e
 
-pub le_or : (i n : ℕ) → (i < n) ⊎ (n ≤ i)
-le_or i zero = inr (omega arith)
-le_or zero (suc n) = inl (omega arith)
-le_or (suc i) (suc n) = elim (le_or i n) [ inl y ↦ inl (omega (arith, y)) | inr z ↦ inr (omega (arith, z)) ]
-
 pub split : (n i : ℕ) → i < n + 1 → (i < n) ⊎ (n ≡ i)
-split n i l = elim (le_or i n) [ inl y ↦ inl y | inr z ↦ inr (omega (arith, l, z)) ]
+split n i l = elim (cases_lt i n) [ inl y ↦ inl y | inr z ↦ inr (omega (arith, l, z)) ]
 
 pub step : (f : List ℕ) (s : ℕ) (w : List ℕ) (d : ℕ) → ((a : ℕ) → a < length f → slice_index f a < length f) → ((a b : ℕ) → a < length f → b < length f → slice_index f a ≡ slice_index f b → a ≡ b) → OnWay f s w d → ¬ (d ≡ s) → OnWay f s (w ++ d ∷ []) (slice_index f d)
 step f s w d closed apart o n =

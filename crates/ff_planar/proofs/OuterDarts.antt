@@ -1,5 +1,7 @@
 -- Outer walks leave a vertex more than once where two darts that leave it have the outside on their left.
 use Rattle.std.proofs.Common.{◌≡◌, ◌≢◌, ◌⊎◌, inl, inr, ℕ, ◌+◌, ◌<◌, ◌≤◌, IsTrue, List, length, arith, refl, sym, ap, ◌∙◌, subst, Option, Some, None}
+use Rattle.std.proofs.lemmas.Option.{same_Some}
+use Rattle.ff_basics.proofs.Numbers.{last_or}
 use Rattle.ff_whole.proofs.Signs.{linear}
 use Rattle.ff_whole.specs.declared.points.Pt.{Pt}
 use Rattle.ff_types.specs.declared.patterns.EdgeEnds.{EdgeEnds}
@@ -80,12 +82,6 @@ pub record IsLastOut (darts : List Dart) (sides : List Side) (d : ℕ) (last : O
   pub low : (v : ℕ) → last ≡ Some v → (k : ℕ) → k < d → side_at sides k ≡ Outside → (dart_at darts k).tail ≤ v
   pub single : (i j v : ℕ) → i < j → j < d → IsOut darts sides v i → IsOut darts sides v j → ⊥
 
-last_or : (k n : ℕ) → k < n + 1 → (k < n) ⊎ (k ≡ n)
-last_or k n l = grind arith
-
-some_same : (v w : ℕ) → Some v ≡ Some w → v ≡ w
-some_same v w e = cc
-
 none_not : (v : ℕ) → Some v ≡ None → ⊥
 none_not v e = cc
 
@@ -104,8 +100,8 @@ module _ (darts : List Dart) (rises : AreInOrder darts) (sides : List Side) (d :
   pub out_more : (last ≡ Some (dart_at darts d).tail → ⊥) → IsLastOut darts sides (d + 1) (Some (dart_at darts d).tail)
   out_more n = record {
     none = λ e. absurd (none_not _ e);
-    some = λ v e. (d, omega arith, record { within = l; side = out; tail = some_same _ _ e });
-    low = λ v e k m s. let f = some_same _ _ e in elim (last_or k d m) [ inl o ↦ let u = up k o in omega (arith, u, f) | inr o ↦ let g = ap (λ j. (dart_at darts j).tail) o in omega (arith, f, g) ];
+    some = λ v e. (d, omega arith, record { within = l; side = out; tail = same_Some _ _ e });
+    low = λ v e k m s. let f = same_Some _ _ e in elim (last_or k d m) [ inl o ↦ let u = up k o in omega (arith, u, f) | inr o ↦ let g = ap (λ j. (dart_at darts j).tail) o in omega (arith, f, g) ];
     single = λ i j v m o a b. elim (last_or j d o) [
       | inl p ↦ h.single i j v m p a b
       | inr p ↦ again i v (omega (arith, m, p)) a (b.tail ∙ refl) (ap (λ k. (dart_at darts k).tail) p) last refl

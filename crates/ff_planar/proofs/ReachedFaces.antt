@@ -2,6 +2,7 @@
 use Rattle.std.proofs.Common.{◌≡◌, ◌≢◌, ◌⊎◌, inl, inr, ℕ, zero, suc, ◌+◌, ◌<◌, ◌≤◌, Bool, true, false, List, [], ◌∷◌, length, slice_set, arith, refl, sym, ap, ◌∙◌, subst, Option, Some}
 use Rattle.std.proofs.lemmas.Bool.{false≢true}
 use Rattle.std.proofs.lemmas.List.{get_or-set_same, get_or-set_other, length-set}
+use Rattle.ff_basics.proofs.Numbers.{last_or, same_or}
 use Rattle.ff_types.specs.declared.faces.EdgeSides.{EdgeSides}
 use Rattle.ff_types.specs.Sides.{sides_at}
 use Rattle.ff_planar.specs.Joining.{reached_at, unreached, AreBeside, Steps, IsWay, AreLinked, IsEven, Stepped, PassedTo, AreReached}
@@ -13,11 +14,6 @@ fewer (true ∷ xs) zero l h = absurd (false≢true (sym h))
 fewer (false ∷ xs) zero l h = omega arith
 fewer (true ∷ xs) (suc f) l h = fewer xs f (omega (arith, l)) h
 fewer (false ∷ xs) (suc f) l h = let r = fewer xs f (omega (arith, l)) h in omega (arith, r)
-
-same_or : (w z : ℕ) → (w ≢ z) ⊎ (w ≡ z)
-same_or w z = elim (which w z) [ inl l ↦ inl (λ e. omega (arith, l, e)) | inr o ↦ elim o [ inl l ↦ inl (λ e. omega (arith, l, e)) | inr e ↦ inr e ] ] where
-  which : (i j : ℕ) → (i < j) ⊎ ((j < i) ⊎ (i ≡ j))
-  which i j = grind arith
 
 kept_set : (xs : List Bool) (g f : ℕ) → g < length xs → reached_at xs f ≡ true → reached_at (slice_set xs g true) f ≡ true
 kept_set xs g f l h = elim (same_or f g) [ inl n ↦ get_or-set_other xs g f true false n ∙ h | inr e ↦ ap (reached_at (slice_set xs g true)) e ∙ get_or-set_same xs g true false l ]
@@ -56,9 +52,6 @@ pub linked_on : (sides : List EdgeSides) (f g h : ℕ) → AreLinked sides f g �
 linked_on sides f g h l s = join sides f g h l.0 l.1 s
 
 -- ---- a pass over the edges
-
-last_or : (k n : ℕ) → k < n + 1 → (k < n) ⊎ (k ≡ n)
-last_or k n l = grind arith
 
 module _ (sides : List EdgeSides) (n : ℕ) (l : n < length sides) (old mid new : List Bool) where
   linked_more : (b : Bool) (s : Stepped (sides_at sides n).left (sides_at sides n).right mid new b) → ((f : ℕ) → reached_at mid f ≡ true → AreLinked sides 0 f) → (f : ℕ) → reached_at new f ≡ true → AreLinked sides 0 f

@@ -2,6 +2,7 @@
 use Rattle.std.proofs.Common.{◌≡◌, ◌≢◌, ◌⊎◌, inl, inr, ℕ, suc, ◌<◌, ◌≤◌, List, length, arith, sym, ap, subst, pos, ◌+ℤ◌, ◌*ℤ◌, ◌<ℤ◌, ◌≤ℤ◌}
 use Rattle.std.proofs.lemmas.Int.{by_lt_z}
 use Rattle.std.proofs.lemmas.Bool.Decides.{nat_tests}
+use Rattle.ff_basics.proofs.Numbers.{same_or}
 use Rattle.ff_whole.proofs.Signs.{linear}
 use Rattle.ff_whole.proofs.Areas.{wide_from_area}
 use Rattle.ff_whole.proofs.Images.{distance_positive}
@@ -22,11 +23,6 @@ use Rattle.ff_planar.proofs.FoundDarts.{along_edge}
 use Rattle.ff_planar.proofs.Neighbours.{there}
 use Rattle.ff_planar.proofs.RingTests.{corners_length, left_is, walk_there}
 use Rattle.ff_planar.proofs.InnerEdges.{none_inside}
-
-same_or : (w z : ℕ) → (w ≢ z) ⊎ (w ≡ z)
-same_or w z = elim (which w z) [ inl l ↦ inl (λ e. omega (arith, l, e)) | inr o ↦ elim o [ inl l ↦ inl (λ e. omega (arith, l, e)) | inr e ↦ inr e ] ] where
-  which : (i j : ℕ) → (i < j) ⊎ ((j < i) ⊎ (i ≡ j))
-  which i j = grind arith
 
 module _ (points : List Pt) (edges : List EdgeEnds) (d : IsDrawing points edges) (ring : List ℕ) (w : IsRingWalk points edges ring)
     (no_reflex : (i : ℕ) → i < length ring → IsReflex points ring i → ⊥) (no_inside : (u : ℕ) → u < length points → IsInside points ring u → ⊥) where

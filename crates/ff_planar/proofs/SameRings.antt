@@ -1,9 +1,9 @@
 -- Walks that share a directed edge, come to no vertex twice and begin with their least vertex are one list.
 use Rattle.std.proofs.Common.{◌≡◌, inl, inr, ℕ, suc, ◌<◌, ◌≤◌, IsTrue, List, [], ◌∷◌, length, slice_index, arith, refl, sym, ap, ◌∙◌}
 use Rattle.std.proofs.lemmas.Bool.{false≢true, ltb-true}
+use Rattle.ff_basics.proofs.Tests.{both_of, either_of}
 use Rattle.ff_types.specs.Rings.{corner, after, Goes}
 use Rattle.ff_types.specs.Faces.{list_before}
-use Rattle.ff_types.proofs.Computing.{both, either}
 use Rattle.ff_planar.proofs.CyclicSums.{walk_start}
 use Rattle.ff_planar.proofs.SameWalks.{GoAlike, IsOnce, AreAlong, along_walk, same_edges, same_length}
 
@@ -17,9 +17,9 @@ same_list (v ∷ V) (w ∷ W) n h = ap (λ x. x ∷ V) (h 0 (omega arith)) ∙ a
 -- no list comes before itself
 pub not_before_itself : (V : List ℕ) → IsTrue (list_before V V) → ⊥
 not_before_itself [] h = false≢true h
-not_before_itself (v ∷ V) h = elim (either _ _ h) [
+not_before_itself (v ∷ V) h = elim (either_of _ _ h) [
   | inl e ↦ let l : v < v = ltb-true v v e in omega (arith, l)
-  | inr e ↦ not_before_itself V (both _ _ e).1
+  | inr e ↦ not_before_itself V (both_of _ _ e).1
 ]
 
 pub record BeginsLeast (V : List ℕ) : Type 0 where

@@ -1,5 +1,6 @@
 -- It can't be that a pattern has no faces and yet nothing is refused.
 use Rattle.std.proofs.Common.{◌≡◌, ◌⊎◌, inl, inr, ℕ, zero, suc, ◌<◌, ◌≤◌, List, length, Option, Some, None, IsTrue, arith, refl, sym, subst}
+use Rattle.ff_basics.proofs.Numbers.{last_or}
 use Rattle.ff_whole.specs.declared.points.Pt.{Pt}
 use Rattle.ff_types.specs.declared.limits.TheConstants.{MOST_FACES}
 use Rattle.ff_types.specs.declared.patterns.EdgeEnds.{EdgeEnds}
@@ -32,9 +33,6 @@ use Rattle.ff_planar.proofs.GivenFaces.{faces_from}
 use Rattle.ff_planar.proofs.Stages.{Reason, IsPast, past_none, past_more, IsFirstReason, refusal, graph_of}
 use Rattle.ff_drawn.proofs.DartLists.{some_darts}
 use Rattle.ff_planar.proofs.SomeTraces.{choose, some_trace}
-
-last_or : (k n : ℕ) → k < suc n → (k < n) ⊎ (k ≡ n)
-last_or k n l = grind arith
 
 -- what doesn't fail below n doesn't fail for all below n
 none_fails : (P : ℕ → Type 0) (n : ℕ) → ((k : ℕ) → k < n → (P k → ⊥) → ⊥) → (((k : ℕ) → k < n → P k) → ⊥) → ⊥

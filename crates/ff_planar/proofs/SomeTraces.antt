@@ -4,6 +4,7 @@ use Rattle.std.proofs.Math.ListN.{replicate, length-replicate}
 use Rattle.std.proofs.lemmas.List.{get_or_append_left, get_or_push, length_push}
 use Rattle.std.proofs.lemmas.Bool.{false≢true}
 use Rattle.std.proofs.lemmas.Int.{ints}
+use Rattle.ff_basics.proofs.Numbers.{last_or, same_or}
 use Rattle.ff_whole.specs.declared.points.Pt.{Pt}
 use Rattle.ff_whole.proofs.CyclicOrder.{IsTurned}
 use Rattle.ff_types.specs.declared.patterns.EdgeEnds.{EdgeEnds}
@@ -27,14 +28,6 @@ use Rattle.ff_planar.proofs.FilledSides.{FillsTo, fill_none, fill_more, fill_all
 use Rattle.ff_planar.proofs.TracedWalks.{IsTraced, unmet_or, trace_none, trace_skip, trace_outer, trace_ring, all_traced}
 use Rattle.ff_planar.proofs.TraceSteps.{none_known}
 use Rattle.ff_drawn.proofs.DartLists.{some_start}
-
-same_or : (w z : ℕ) → (w ≢ z) ⊎ (w ≡ z)
-same_or w z = elim (which w z) [ inl l ↦ inl (λ e. omega (arith, l, e)) | inr o ↦ elim o [ inl l ↦ inl (λ e. omega (arith, l, e)) | inr e ↦ inr e ] ] where
-  which : (i j : ℕ) → (i < j) ⊎ ((j < i) ⊎ (i ≡ j))
-  which i j = grind arith
-
-last_or : (k n : ℕ) → k < n + 1 → (k < n) ⊎ (k ≡ n)
-last_or k n l = grind arith
 
 -- where there is something for each number below n, there is a list of it
 module _ {A : Type 0} (none : A) (P : ℕ → A → Type 0) where

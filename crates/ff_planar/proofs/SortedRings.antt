@@ -1,24 +1,13 @@
 -- Two lists of rings in order, with the same members, are one.
 use Rattle.std.proofs.Common.{◌≡◌, ◌⊎◌, inl, inr, ℕ, zero, suc, ◌+◌, ◌<◌, ◌==◌, ◌&&◌, ◌||◌, Bool, true, false, nat_lt, IsTrue, List, [], ◌∷◌, length, arith, refl, sym, ap, ◌∙◌, subst}
 use Rattle.std.proofs.lemmas.Bool.{false≢true, ltb-true, lt-ltb, eqb-true}
+use Rattle.ff_basics.proofs.Tests.{both_of, either_of, of_both, of_first, of_second}
+use Rattle.ff_basics.proofs.Numbers.{last_or, same_number, which}
 use Rattle.ff_types.specs.Faces.{ring_at, list_before}
-use Rattle.ff_types.proofs.Computing.{both, either, equal_itself}
 use Rattle.ff_planar.proofs.SameRings.{not_before_itself}
 
-or_first : (a b : Bool) → IsTrue a → IsTrue (a || b)
-or_first true b h = refl
-or_first false b h = absurd (false≢true h)
-
-or_last : (a b : Bool) → IsTrue b → IsTrue (a || b)
-or_last true b h = refl
-or_last false b h = h
-
-and_both : (a b : Bool) → IsTrue a → IsTrue b → IsTrue (a && b)
-and_both true b h k = k
-and_both false b h k = absurd (false≢true h)
-
 equal_is : (x y : ℕ) → x ≡ y → IsTrue (x == y)
-equal_is x y e = ap (λ t. t == y) e ∙ equal_itself y
+equal_is x y e = ap (λ t. t == y) e ∙ same_number y
 
 pub before_trans : (p q r : List ℕ) → IsTrue (list_before p q) → IsTrue (list_before q r) → IsTrue (list_before p r)
 before_trans [] [] r h k = absurd (false≢true h)
@@ -26,14 +15,14 @@ before_trans [] (y ∷ q) [] h k = absurd (false≢true k)
 before_trans [] (y ∷ q) (z ∷ r) h k = refl
 before_trans (x ∷ p) [] r h k = absurd (false≢true h)
 before_trans (x ∷ p) (y ∷ q) [] h k = absurd (false≢true k)
-before_trans (x ∷ p) (y ∷ q) (z ∷ r) h k = elim (either (nat_lt x y) ((x == y) && list_before p q) h) [
-  | inl a ↦ elim (either (nat_lt y z) ((y == z) && list_before q r) k) [
-    | inl b ↦ let l : x < y = ltb-true x y a in let m : y < z = ltb-true y z b in or_first (nat_lt x z) _ (lt-ltb x z (omega (arith, l, m)))
-    | inr b ↦ let l : x < y = ltb-true x y a in let e : y ≡ z = eqb-true y z (both (y == z) (list_before q r) b).0 in or_first (nat_lt x z) _ (lt-ltb x z (omega (arith, l, e)))
+before_trans (x ∷ p) (y ∷ q) (z ∷ r) h k = elim (either_of (nat_lt x y) ((x == y) && list_before p q) h) [
+  | inl a ↦ elim (either_of (nat_lt y z) ((y == z) && list_before q r) k) [
+    | inl b ↦ let l : x < y = ltb-true x y a in let m : y < z = ltb-true y z b in of_first (nat_lt x z) _ (lt-ltb x z (omega (arith, l, m)))
+    | inr b ↦ let l : x < y = ltb-true x y a in let e : y ≡ z = eqb-true y z (both_of (y == z) (list_before q r) b).0 in of_first (nat_lt x z) _ (lt-ltb x z (omega (arith, l, e)))
   ]
-  | inr a ↦ elim (either (nat_lt y z) ((y == z) && list_before q r) k) [
-    | inl b ↦ let e : x ≡ y = eqb-true x y (both (x == y) (list_before p q) a).0 in let m : y < z = ltb-true y z b in or_first (nat_lt x z) _ (lt-ltb x z (omega (arith, e, m)))
-    | inr b ↦ let s = both (x == y) (list_before p q) a in let t = both (y == z) (list_before q r) b in or_last (nat_lt x z) _ (and_both (x == z) (list_before p r) (equal_is x z (eqb-true x y s.0 ∙ eqb-true y z t.0)) (before_trans p q r s.1 t.1))
+  | inr a ↦ elim (either_of (nat_lt y z) ((y == z) && list_before q r) k) [
+    | inl b ↦ let e : x ≡ y = eqb-true x y (both_of (x == y) (list_before p q) a).0 in let m : y < z = ltb-true y z b in of_first (nat_lt x z) _ (lt-ltb x z (omega (arith, e, m)))
+    | inr b ↦ let s = both_of (x == y) (list_before p q) a in let t = both_of (y == z) (list_before q r) b in of_second (nat_lt x z) _ (of_both (x == z) (list_before p r) (equal_is x z (eqb-true x y s.0 ∙ eqb-true y z t.0)) (before_trans p q r s.1 t.1))
   ]
 ]
 
@@ -47,12 +36,6 @@ pub record AreAmong (rings others : List (List ℕ)) : Type 0 where
 -- the same before place k
 pub record AreSame (rings others : List (List ℕ)) (k : ℕ) : Type 0 where
   pub same : (f : ℕ) → f < k → f < length rings → f < length others → ring_at rings f ≡ ring_at others f
-
-which : (i j : ℕ) → (i < j) ⊎ ((j < i) ⊎ (i ≡ j))
-which i j = grind arith
-
-last_or : (k n : ℕ) → k < n + 1 → (k < n) ⊎ (k ≡ n)
-last_or k n l = grind arith
 
 module _ (rings others : List (List ℕ)) (s : Rises rings) (t : Rises others) (a : AreAmong rings others) (b : AreAmong others rings) where
   -- where ring k stands among the others is not before k

@@ -1,5 +1,6 @@
 -- The refusals of faces by stages: each stage has a reason with two numbers, and the first that holds is the refusal.
 use Rattle.std.proofs.Common.{◌≡◌, ◌⊎◌, inl, inr, ℕ, zero, suc, ◌<◌, List, Option, arith, refl, sym, ap, ◌∙◌, subst}
+use Rattle.ff_basics.proofs.Numbers.{last_or, which}
 use Rattle.ff_whole.specs.declared.points.Pt.{Pt}
 use Rattle.ff_types.specs.declared.patterns.EdgeEnds.{EdgeEnds}
 use Rattle.ff_types.specs.declared.patterns.Mark.{Mark}
@@ -9,12 +10,6 @@ use Rattle.ff_types.specs.declared.refusals.What.TheVariants as what
 use Rattle.ff_types.specs.Patterns.{IsPattern}
 use Rattle.ff_types.specs.FaceRefusals.{SamePointAt, CrossingAt, LooseAt, RimAt, PinchAt, ReflexAt, EnclosedAt, ApartAt, TooManyFaces, IsLeast, Never, NoCrossing, IsDrawn, IsClear, RefusesFaces}
 use Rattle.ff_drawn.specs.Graphs.{IsGraph}
-
-which : (i j : ℕ) → (i < j) ⊎ ((j < i) ⊎ (i ≡ j))
-which i j = grind arith
-
-last_or : (k n : ℕ) → k < suc n → (k < n) ⊎ (k ≡ n)
-last_or k n l = grind arith
 
 -- a pattern's vertices and edges, without its marks
 pub graph_of : (points : List Pt) (edges : List EdgeEnds) (marks : Option (List Mark)) → IsPattern points edges marks → IsGraph points edges

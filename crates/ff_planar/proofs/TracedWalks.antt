@@ -2,6 +2,7 @@
 use Rattle.std.proofs.Common.{◌≡◌, ◌≢◌, ◌⊎◌, inl, inr, ℕ, zero, suc, ◌+◌, ◌<◌, ◌≤◌, List, [], ◌∷◌, ◌++◌, length, slice_index, IsTrue, arith, refl, sym, ap, ◌∙◌, subst, pos, ◌<ℤ◌, ◌≤ℤ◌}
 use Rattle.std.proofs.lemmas.Bool.Decides.{nat_tests}
 use Rattle.std.proofs.lemmas.List.{get_or_append_left, get_or_push, length_push}
+use Rattle.ff_basics.proofs.Numbers.{last_or, same_or}
 use Rattle.ff_whole.proofs.ClosedLists.{walk, walk-below, walk-to, next-below}
 use Rattle.ff_whole.proofs.Signs.{linear}
 use Rattle.ff_whole.proofs.Searches.{search}
@@ -63,14 +64,6 @@ unmet_or (Face f) = inr (face_met f)
 
 pub unmet_from : (s : Side) → (s ≢ Unmet → ⊥) → s ≡ Unmet
 unmet_from s h = elim (unmet_or s) [ inl e ↦ e | inr n ↦ absurd (h n) ]
-
-last_or : (k n : ℕ) → k < n + 1 → (k < n) ⊎ (k ≡ n)
-last_or k n l = grind arith
-
-same_or : (w z : ℕ) → (w ≢ z) ⊎ (w ≡ z)
-same_or w z = elim (which w z) [ inl l ↦ inl (λ e. omega (arith, l, e)) | inr o ↦ elim o [ inl l ↦ inl (λ e. omega (arith, l, e)) | inr e ↦ inr e ] ] where
-  which : (i j : ℕ) → (i < j) ⊎ ((j < i) ⊎ (i ≡ j))
-  which i j = grind arith
 
 -- ---- nothing has been met
 

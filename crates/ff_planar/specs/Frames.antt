@@ -16,10 +16,12 @@ pub record IsAroundCorners (points : List Pt) (ring : List ℕ) (n : ℕ) (e : E
   pub high_near : IsNear e.high
   pub around : (k : ℕ) → k < n → IsAround (point_at points (corner ring k)) e
 
+-- the extent has all corners of its ring
 pub record IsRingExtent (points : List Pt) (rings : List (List ℕ)) (e : Extent) : Type 0 where
   pub there : e.number < length rings
   pub corners : IsAroundCorners points (ring_at rings e.number) (length (ring_at rings e.number)) e
 
+-- one extent for each ring
 pub record AreRingExtents (points : List Pt) (rings : List (List ℕ)) (list : List Extent) : Type 0 where
   pub each : (i : ℕ) → i < length list → IsRingExtent points rings (extent_at list i)
   pub all : (f : ℕ) → f < length rings → (i : ℕ) × (i < length list) × ((extent_at list i).number ≡ f)

@@ -19,9 +19,9 @@ abbrev pub HasNoFaces : List Pt → List EdgeEnds → Option (List Mark) → Typ
 HasNoFaces points edges marks = (rings : List (List ℕ)) → AreRings points edges marks rings → ⊥
 
 -- why a drawing has no faces
-abbrev pub IsNoRings : List Pt → List EdgeEnds → Option (List Mark) → No → Type 0
-IsNoRings points edges marks (no.Refused r) = RefusesFaces points edges marks r × HasNoFaces points edges marks
-IsNoRings points edges marks no.NoMemory = Unit {0}
+abbrev pub WhyNoRings : List Pt → List EdgeEnds → Option (List Mark) → No → Type 0
+WhyNoRings points edges marks (no.Refused r) = RefusesFaces points edges marks r × HasNoFaces points edges marks
+WhyNoRings points edges marks no.NoMemory = Unit {0}
 
 -- rings that are faces: no refusal but the last comes
 pub record AreFound (points : List Pt) (edges : List EdgeEnds) (marks : Option (List Mark)) (rings : List (List ℕ)) : Type 0 where
@@ -46,9 +46,9 @@ pub record AreGiven (points : List Pt) (edges : List EdgeEnds) (marks : Option (
   pub few : length faces.rings ≤ MOST_FACES
 
 -- why none are given: a refusal, and so no faces within the limit
-abbrev pub IsNoFaces : List Pt → List EdgeEnds → Option (List Mark) → No → Type 0
-IsNoFaces points edges marks (no.Refused r) = RefusesFaces points edges marks r × (IsDrawing points edges → (rings : List (List ℕ)) → AreRings points edges marks rings → length rings ≤ MOST_FACES → ⊥)
-IsNoFaces points edges marks no.NoMemory = Unit {0}
+abbrev pub WhyNoFaces : List Pt → List EdgeEnds → Option (List Mark) → No → Type 0
+WhyNoFaces points edges marks (no.Refused r) = RefusesFaces points edges marks r × (IsDrawing points edges → (rings : List (List ℕ)) → AreRings points edges marks rings → length rings ≤ MOST_FACES → ⊥)
+WhyNoFaces points edges marks no.NoMemory = Unit {0}
 
 -- a mark for each edge, absent ones filled in
 pub record AreFilled (marks : Option (List Mark)) (seen : List EdgeSides) (filled_in : List Mark) : Type 0 where

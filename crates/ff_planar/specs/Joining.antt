@@ -24,6 +24,7 @@ abbrev pub IsWay : List EdgeSides → ℕ → List ℕ → ℕ → Type 0
 IsWay sides f [] g = f ≡ g
 IsWay sides f (h ∷ rest) g = Steps sides f h × IsWay sides h rest g
 
+-- there is a way from one face to the other over shared edges
 abbrev pub AreLinked : List EdgeSides → ℕ → ℕ → Type 0
 AreLinked sides f g = (way : List ℕ) × IsWay sides f way g
 

@@ -15,6 +15,7 @@ left_of_step points ring j v = turn (point_at points (corner ring j)) (point_at 
 abbrev pub IsBad : List Pt → List ℕ → ℕ → ℕ → Type 0
 IsBad points ring i j = ((i ≢ j) × (corner ring j ≡ corner ring i)) ⊎ (left_of_step points ring j (corner ring i) <ℤ pos 0)
 
+-- at this place the ring has a corner that a convex one can't have
 abbrev pub IsReflex : List Pt → List ℕ → ℕ → Type 0
 IsReflex points ring i = (j : ℕ) × (j < length ring) × IsBad points ring i j
 
@@ -42,6 +43,7 @@ SomeReflex points rings v = (f : ℕ) × (f < length rings) × HasReflex points 
 abbrev pub IsInside : List Pt → List ℕ → ℕ → Type 0
 IsInside points ring v = (j : ℕ) → j < length ring → pos 0 <ℤ left_of_step points ring j v
 
+-- the vertex is strictly inside some ring
 abbrev pub SomeInside : List Pt → List (List ℕ) → ℕ → Type 0
 SomeInside points rings v = (f : ℕ) × (f < length rings) × IsInside points (ring_at rings f) v
 

@@ -12,14 +12,17 @@ use Rattle.ff_types.specs.Faces.{ring_at, mark_at}
 use Rattle.ff_types.specs.Sides.{sides_at}
 use Rattle.ff_types.specs.Walks.{IsOuterSide}
 
+-- the side of a directed edge: a face whose ring goes along it, or the outside
 abbrev pub IsSeenOf : List Pt → List EdgeEnds → List (List ℕ) → ℕ → ℕ → Option ℕ → Type 0
 IsSeenOf points edges rings u v (Some f) = (f < length rings) × Goes (ring_at rings f) u v
 IsSeenOf points edges rings u v None = IsOuterSide points edges u v
 
+-- both sides of an edge
 pub record AreSeen (points : List Pt) (edges : List EdgeEnds) (rings : List (List ℕ)) (e : EdgeEnds) (sides : EdgeSides) : Type 0 where
   pub left : IsSeenOf points edges rings e.a e.b sides.left
   pub right : IsSeenOf points edges rings e.b e.a sides.right
 
+-- the sides of all edges
 pub record AreAllSeen (points : List Pt) (edges : List EdgeEnds) (rings : List (List ℕ)) (sides : List EdgeSides) : Type 0 where
   pub as_many : length sides ≡ length edges
   pub each : (e : ℕ) → e < length edges → AreSeen points edges rings (edge_at edges e) (sides_at sides e)

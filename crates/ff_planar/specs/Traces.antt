@@ -21,6 +21,7 @@ IsSideOf points edges rings u v (Face f) = (f < length rings) × Goes (ring_at r
 IsSideOf points edges rings u v Outside = IsOuterSide points edges u v
 IsSideOf points edges rings u v Unmet = ⊥
 
+-- the rings that were traced, and the sides of all directed edges
 pub record AreTraced (points : List Pt) (edges : List EdgeEnds) (darts : List Dart) (rings : List (List ℕ)) (sides : List Side) : Type 0 where
   pub rings_are : AreRingWalks points edges rings
   pub few : length rings ≤ length darts

@@ -10,9 +10,9 @@ ghost use Rattle.ff_planar.specs.Reflex.{AreThere, IsInside};
 ghost use Rattle.ff_planar.specs.Frames.{IsAroundCorners, IsRingExtent, AreRingExtents, AreSome, AreWest, HoldsNone, AreHollow, NoneInside};
 
 use crate::reflex::is_inside;
-use ff_drawn::{Extent, high_of, is_south_of, is_west_of, low_of, order};
+use ff_drawn::{Extent, is_south_of, is_west_of, order};
 use ff_tables::{Items, NoMemory};
-use ff_whole::Pt;
+use ff_whole::{Pt, high_of, low_of};
 use std::alloc::Global;
 
 // The extent with one point more.

@@ -2,7 +2,7 @@
 ghost use Rattle.std.specs.Prelude.{◌≡◌, ◌<◌, List, Some, length, MatchResult, IfOk};
 ghost use Rattle.ff_types.specs.Sides.{filled as filled_mark, sides_at, IsMarkOf};
 ghost use Rattle.ff_drawn.specs.Graphs.{IsGraph};
-ghost use Rattle.ff_planar.specs.Given.{AreGiven, IsNoFaces, AreFilled};
+ghost use Rattle.ff_planar.specs.Given.{AreGiven, WhyNoFaces, AreFilled};
 
 use crate::finding::find;
 use ff_tables::{Items, NoMemory};
@@ -58,7 +58,7 @@ fn faces_of(
     requires graph { IsGraph points.now edges.now }
     requires some { 0 < length points.now }
     requires marked { (ms : List Mark) → marks.now ≡ Some ms → length ms ≡ length edges.now }
-    ensures { MatchResult result (AreGiven points.now edges.now marks.now) (IsNoFaces points.now edges.now marks.now) }
+    ensures { MatchResult result (AreGiven points.now edges.now marks.now) (WhyNoFaces points.now edges.now marks.now) }
 {
     let found = match find(alloc, points, edges, marks) {
         Ok(found) => found,
@@ -82,7 +82,7 @@ fn faces_of(
 /// the faces beside each edge, and the marks, where absent ones are filled in.
 pub fn faces(alloc: Global, pattern: &Pattern) -> Result<Faces, No>
     requires some { 0 < length pattern.now.points }
-    ensures { MatchResult result (AreGiven pattern.now.points pattern.now.edges pattern.now.marks) (IsNoFaces pattern.now.points pattern.now.edges pattern.now.marks) }
+    ensures { MatchResult result (AreGiven pattern.now.points pattern.now.edges pattern.now.marks) (WhyNoFaces pattern.now.points pattern.now.edges pattern.now.marks) }
 {
     faces_of(
         alloc,

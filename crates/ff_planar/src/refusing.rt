@@ -5,7 +5,7 @@ ghost use Rattle.ff_drawn.specs.Drawn.{IsDrawnBy};
 ghost use Rattle.ff_drawn.specs.Extents.{AreSpots};
 ghost use Rattle.ff_planar.specs.Traces.{AreTraced};
 ghost use Rattle.ff_planar.specs.Seen.{AreAllSeen};
-ghost use Rattle.ff_planar.specs.Given.{AreFound, IsNoRings};
+ghost use Rattle.ff_planar.specs.Given.{AreFound, WhyNoRings};
 
 use crate::frames::any_enclosed;
 use crate::joining::first_lost;
@@ -40,7 +40,7 @@ pub fn refuse(
     requires traced { AreTraced points.now edges.now darts.now rings.now sides.now }
     requires seen { AreAllSeen points.now edges.now rings.now seen.now }
     requires spots { AreSpots points.now spots.now }
-    ensures { MatchResult result (λ _. AreFound points.now edges.now marks.now rings.now) (IsNoRings points.now edges.now marks.now) }
+    ensures { MatchResult result (λ _. AreFound points.now edges.now marks.now rings.now) (WhyNoRings points.now edges.now marks.now) }
 {
     let any = any_enclosed(alloc, points, rings, spots)?;
     if let Some(e) = first_rim(points, edges, rings, seen, marks) {

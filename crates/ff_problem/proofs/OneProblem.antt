@@ -22,7 +22,7 @@ use Rattle.ff_types.specs.FoldRefusals.{RefusesFolding}
 use Rattle.ff_types.specs.Sheets.{Sheet, sheet_of}
 use Rattle.ff_types.specs.Cases.{IsCaseOf}
 use Rattle.ff_whole.specs.declared.places.Place.{Place}
-use Rattle.ff_cells.specs.SlabCells.{AreNoCells, AreOneEach, StandInCells, entries, HasFewCells}
+use Rattle.ff_cells.specs.SlabCells.{WhyNoCells, AreOneEach, StandInCells, entries, HasFewCells}
 use Rattle.ff_cells.proofs.Counting.{counted_once}
 use Rattle.ff_planar.specs.Given.{AreGiven}
 use Rattle.ff_planar.proofs.FacesOnce.{faces_once}
@@ -138,7 +138,7 @@ counts p faces folded h = record {
 
 -- a sheet within the limits isn't refused, and another has one refusal
 module _ (g : Sheet) (counts : CountsAgree g) where
-  few_or_refused : {A : Type 0} (r : Refusal) → HasFewCells g → AreNoCells g (Refused r) → A
+  few_or_refused : {A : Type 0} (r : Refusal) → HasFewCells g → WhyNoCells g (Refused r) → A
   few_or_refused r few (inl (e, (places, stand, many))) = let l = counts.no_longer places few.places stand few.one_each in absurd (omega (arith, l, many, few.few))
   few_or_refused r few (inr (e, (places, each, less, many))) = absurd (omega (arith, counts.same_entries places few.places each few.one_each, many, few.few_entries))
 
@@ -147,7 +147,7 @@ module _ (g : Sheet) (counts : CountsAgree g) where
   within_or_refused r w (inr (few, inl (e, many))) = w.pairs many
   within_or_refused r w (inr (few, inr (no_pairs, e, many))) = w.constraints many
 
-  one_cells : (r s : Refusal) → AreNoCells g (Refused r) → AreNoCells g (Refused s) → r ≡ s
+  one_cells : (r s : Refusal) → WhyNoCells g (Refused r) → WhyNoCells g (Refused s) → r ≡ s
   one_cells r s (inl a) (inl b) = a.0 ∙ sym b.0
   one_cells r s (inr a) (inr b) = a.0 ∙ sym b.0
   one_cells r s (inl (e, (places, stand, many))) (inr (f, (others, each, less, more))) = let l = counts.no_longer places others stand each in absurd (omega (arith, l, many, less))

@@ -2,6 +2,7 @@
 use Rattle.std.proofs.Common.{◌≡◌, ◌≢◌, ◌⊎◌, inl, inr, ℕ, ◌<◌, ◌∙◌, Bool, true, false, ◌&&◌, ◌||◌, List, [], ◌∷◌, ◌++◌, length, length-append, map, slice_get, slice_index, Some, IsTrue, refl, ap, sym, subst, arith}
 use Rattle.std.proofs.lemmas.Bool.{false≢true}
 use Rattle.std.proofs.lemmas.List.{length-map}
+use Rattle.ff_basics.proofs.Tests.{both_of, either_of}
 use Rattle.ff_types.specs.declared.patterns.Pattern.{Pattern}
 use Rattle.ff_types.specs.declared.faces.Faces.{Faces}
 use Rattle.ff_types.specs.declared.faces.Folded.{Folded}
@@ -28,10 +29,10 @@ use Rattle.ff_cells.specs.declared.cell.Cell.{Cell}
 use Rattle.ff_cells.specs.FaceSets.{HaveFaceSets}
 use Rattle.ff_edges.specs.declared.edge_pair.EdgePair.{EdgePair}
 use Rattle.ff_edges.specs.declared.edge_face.EdgeFace.{EdgeFace}
-use Rattle.ff_edges.specs.SharedSegments.{AreNoEdgePairs, constrain, beside_both}
+use Rattle.ff_edges.specs.SharedSegments.{WhyNoEdgePairs, constrain, beside_both}
 use Rattle.ff_edges.specs.EdgesInside.{AreNoEdgeFaces, is_inner_edge}
-use Rattle.ff_pairs.specs.Together.{AreNoPairs}
-use Rattle.ff_trans.specs.Triples.{AreNoTriples, AreTriples}
+use Rattle.ff_pairs.specs.Together.{WhyNoPairs}
+use Rattle.ff_trans.specs.Triples.{WhyNoTriples, AreTriples}
 use Rattle.ff_tacos.specs.Tacos.{AreTooMany, AreTacos}
 use Rattle.ff_types.specs.Splitting.{cite_of}
 use Rattle.ff_types.specs.declared.limits.TheConstants.{MOST_CONSTRAINTS}
@@ -59,7 +60,7 @@ before_apart p q b e = lists_apart p q b (subst (λ x. IsTrue (list_before q x))
 
 -- ---- pairs
 
-pub no_pairs : (g : Sheet) (cells : List Cell) (n : No) → HasFewCells g → HaveFaceSets g cells → AreNoPairs cells n → WhyNoCase g n
+pub no_pairs : (g : Sheet) (cells : List Cell) (n : No) → HasFewCells g → HaveFaceSets g cells → WhyNoPairs cells n → WhyNoCase g n
 no_pairs g cells no.NoMemory few sets h = tt
 no_pairs g cells (no.Refused r) few sets (e, (list, are, many)) = inr (few, inl (e, (list, record { sorted = are.sorted; each = λ n p t. (are.overlap g sets p.0 p.1 (are.sorted.rising n p t)).1 (n, t) }, many)))
 
@@ -80,7 +81,7 @@ module _ (g : Sheet) (pairs : List (ℕ × ℕ)) (triples : List Listed) (layers
     apart m n l o k s t = before_apart (key (cite_of l)) (key (cite_of o)) (all_sorted g layers.cells pairs triples tacos (triples ++ tacos) layers.sets layers.triples are refl m n (cite_of l) (cite_of o) k
         (mapped cite_of (triples ++ tacos) m l s) (mapped cite_of (triples ++ tacos) n o t))
 
-pub no_triples : (g : Sheet) (cells : List Cell) (pairs : List (ℕ × ℕ)) (n : No) → HasFewCells g → (HasManyPairs g → ⊥) → HaveFaceSets g cells → AreNoTriples cells pairs n → WhyNoCase g n
+pub no_triples : (g : Sheet) (cells : List Cell) (pairs : List (ℕ × ℕ)) (n : No) → HasFewCells g → (HasManyPairs g → ⊥) → HaveFaceSets g cells → WhyNoTriples cells pairs n → WhyNoCase g n
 no_triples g cells pairs no.NoMemory few short sets h = tt
 no_triples g cells pairs (no.Refused r) few short sets (e, (list, some, many, witnessed)) = inr (
   few,
@@ -132,14 +133,6 @@ same_face true false e f m n at bt q = absurd (omega (arith, (three_same 2 e f 4
 same_face false true e f m n at bt q = absurd (omega (arith, (three_same 4 e f 2 m n q).0))
 same_face false false e f m n at bt q = let t = three_same 4 e f 4 m n q in (t.1, t.2)
 
-either : (a b : Bool) → IsTrue (a || b) → IsTrue a ⊎ IsTrue b
-either true b t = inl refl
-either false b t = inr t
-
-both : (a b : Bool) → IsTrue (a && b) → IsTrue a × IsTrue b
-both true b t = (refl, t)
-both false b t = absurd (false≢true t)
-
 not_same_pair : (p q : ℕ × ℕ) → IsTrue (is_before p q) → p.0 ≡ q.0 → p.1 ≡ q.1 → ⊥
 not_same_pair p q b e f = pairs_apart p q b (subst (λ x. IsTrue (is_before q x)) (sym same) (subst (λ x. IsTrue (is_before x q)) same b)) where
   same : p ≡ q
@@ -155,15 +148,15 @@ module _ {pattern : Pattern} {faces : Faces} {folded : Folded} (h : IsFoldedPatt
   -- the four ways in which two edges constrain
   ways : (e k : ℕ) → IsTrue (constrain g e k) → ((IsTrue (is_folded_edge g e) × IsTrue (is_folded_edge g k)) × IsTrue (on_one_side g e (beside_both g e k)))
       ⊎ ((IsTrue (is_folded_edge g e) × IsTrue (is_flat_edge g k)) ⊎ ((IsTrue (is_flat_edge g e) × IsTrue (is_folded_edge g k)) ⊎ (IsTrue (is_flat_edge g e) × IsTrue (is_flat_edge g k))))
-  ways e k t = elim (either _ (is_flat_edge g e && is_flat_edge g k) t) [
-    | inl u ↦ elim (either _ (is_flat_edge g e && is_folded_edge g k) u) [
-      | inl v ↦ elim (either _ (is_folded_edge g e && is_flat_edge g k) v) [
-        | inl w ↦ let x = both (is_folded_edge g e && is_folded_edge g k) (on_one_side g e (beside_both g e k)) w in inl (both (is_folded_edge g e) (is_folded_edge g k) x.0, x.1)
-        | inr w ↦ inr (inl (both (is_folded_edge g e) (is_flat_edge g k) w))
+  ways e k t = elim (either_of _ (is_flat_edge g e && is_flat_edge g k) t) [
+    | inl u ↦ elim (either_of _ (is_flat_edge g e && is_folded_edge g k) u) [
+      | inl v ↦ elim (either_of _ (is_folded_edge g e && is_flat_edge g k) v) [
+        | inl w ↦ let x = both_of (is_folded_edge g e && is_folded_edge g k) (on_one_side g e (beside_both g e k)) w in inl (both_of (is_folded_edge g e) (is_folded_edge g k) x.0, x.1)
+        | inr w ↦ inr (inl (both_of (is_folded_edge g e) (is_flat_edge g k) w))
       ]
-      | inr v ↦ inr (inr (inl (both (is_flat_edge g e) (is_folded_edge g k) v)))
+      | inr v ↦ inr (inr (inl (both_of (is_flat_edge g e) (is_folded_edge g k) v)))
     ]
-    | inr u ↦ inr (inr (inr (both (is_flat_edge g e) (is_flat_edge g k) u)))
+    | inr u ↦ inr (inr (inr (both_of (is_flat_edge g e) (is_flat_edge g k) u)))
   ]
 
   pair_cite : EdgePair → Cite
@@ -206,7 +199,7 @@ module _ {pattern : Pattern} {faces : Faces} {folded : Folded} (h : IsFoldedPatt
     by false false p q (inr (inr (inr w))) = (l, flats w.0 w.1, share)
 
   module _ (pairs : List (ℕ × ℕ)) (triples : List Listed) (layers : AreLayers g pairs triples) where
-    pub no_edge_pairs : (n : No) → AreNoEdgePairs g n → WhyNoCase g n
+    pub no_edge_pairs : (n : No) → WhyNoEdgePairs g n → WhyNoCase g n
     unfolding pair_cite
     no_edge_pairs no.NoMemory e = tt
     no_edge_pairs (no.Refused r) (e, (list, are, many)) = too_many g pairs triples layers r e (many_cites g pair_cite list
@@ -220,7 +213,7 @@ module _ {pattern : Pattern} {faces : Faces} {folded : Folded} (h : IsFoldedPatt
 
     face_holds : (c : EdgeFace) → IsTrue (is_inner_edge g c.e) → HasEdgeInside g c.face c.e → Holds g (side_cite c)
     unfolding side_cite
-    face_holds c t inside = by (is_folded_edge g c.e) refl (either (is_folded_edge g c.e) (is_flat_edge g c.e) t) where
+    face_holds c t inside = by (is_folded_edge g c.e) refl (either_of (is_folded_edge g c.e) (is_flat_edge g c.e) t) where
       by : (a : Bool) → is_folded_edge g c.e ≡ a → IsTrue (is_folded_edge g c.e) ⊎ IsTrue (is_flat_edge g c.e) → Holds g (face_cite a c.e c.face c.at)
       by true p w = (p, inside)
       by false p (inl w) = absurd (false≢true (sym p ∙ w))

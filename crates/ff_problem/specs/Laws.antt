@@ -14,6 +14,7 @@ pub record AreSameProblems (faces others : Faces) (folded other : Folded) (case 
   pub folded_are : folded ≡ other
   pub alike : AreAlike case second
 
+-- a pattern has one problem, but for places
 abbrev pub ProblemIsOne : Type 0
 ProblemIsOne = (p : Pattern) (faces others : Faces) (folded other : Folded) (case second : Case) → IsProblem p faces folded case
     → IsProblem p others other second → AreSameProblems faces others folded other case second
@@ -23,5 +24,6 @@ abbrev pub ProblemsAreNotRefused : Type 0
 ProblemsAreNotRefused = (p : Pattern) (faces : Faces) (folded : Folded) (case : Case) (r : Refusal) → IsProblem p faces folded case
     → RefusesProblem p r → ⊥
 
+-- and one refusal
 abbrev pub ProblemRefusalIsOne : Type 0
 ProblemRefusalIsOne = (p : Pattern) (r s : Refusal) → RefusesProblem p r → RefusesProblem p s → r ≡ s

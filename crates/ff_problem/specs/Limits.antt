@@ -11,7 +11,7 @@ use Rattle.ff_types.specs.Sheets.{Sheet}
 use Rattle.ff_types.specs.Inside.{Overlap}
 use Rattle.ff_types.specs.Cites.{Holds}
 use Rattle.ff_types.specs.Cases.{key}
-use Rattle.ff_cells.specs.SlabCells.{HasFewCells, AreNoCells}
+use Rattle.ff_cells.specs.SlabCells.{HasFewCells, WhyNoCells}
 use Rattle.ff_types.specs.declared.limits.TheConstants.{MOST_PAIRS}
 use Rattle.ff_types.specs.declared.limits.TheConstants.{MOST_CONSTRAINTS}
 
@@ -29,12 +29,13 @@ pub record HoldApart (g : Sheet) (cites : List Cite) : Type 0 where
 abbrev pub HasManyPairs : Sheet → Type 0
 HasManyPairs g = (pairs : List (ℕ × ℕ)) × OverlapInOrder g pairs × (MOST_PAIRS < length pairs)
 
+-- more constraints hold than the limit
 abbrev pub HasManyConstraints : Sheet → Type 0
 HasManyConstraints g = (cites : List Cite) × HoldApart g cites × (MOST_CONSTRAINTS < length cites)
 
 -- too many slab cells or entries; else too many pairs; else too many constraints
 abbrev pub RefusesCase : Sheet → Refusal → Type 0
-RefusesCase g r = AreNoCells g (Refused r)
+RefusesCase g r = WhyNoCells g (Refused r)
     ⊎ (HasFewCells g × (((r ≡ TooMany Pairs MOST_PAIRS) × HasManyPairs g)
     ⊎ ((HasManyPairs g → ⊥) × (r ≡ TooMany Constraints MOST_CONSTRAINTS) × HasManyConstraints g)))
 

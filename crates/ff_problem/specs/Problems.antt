@@ -42,6 +42,7 @@ RefusesAsLayered p r = (faces : Faces) × (folded : Folded) × IsFoldedPattern p
 abbrev pub RefusesProblem : Pattern → Refusal → Type 0
 RefusesProblem p r = RefusesAsDrawn p r ⊎ (RefusesAsFolded p r ⊎ RefusesAsLayered p r)
 
+-- why a pattern has no problem: its refusal, or no memory
 abbrev pub WhyNoProblem : Pattern → No → Type 0
 WhyNoProblem p (no.Refused r) = RefusesProblem p r
 WhyNoProblem p no.NoMemory = Unit {0}

@@ -1,5 +1,7 @@
 -- Values of a closure: when they are all of it, and when it clashes.
 use Rattle.std.proofs.Common.{IsTrue, List, ◌≡◌, ℕ, Bool, true, false, slice_get, Some, None, Option, sym, ap, ◌∙◌, subst, inl, inr, refl}
+use Rattle.ff_tables.proofs.SameOrders.{is_order_of, order_is, turn_one}
+use Rattle.ff_basics.proofs.Options.{some_same}
 use Rattle.ff_tables.specs.declared.terms.Constraint.{Constraint}
 use Rattle.ff_tables.specs.declared.orders.Order.{Order}
 use Rattle.ff_tables.specs.declared.orders.Order.TheVariants.{Below, Above}
@@ -15,9 +17,6 @@ use Rattle.ff_propagate.specs.Closure.{InClosure, Clashes, IsClosure, Gives, Hol
 use Rattle.ff_propagate.specs.Closing.{Contradict}
 use Rattle.ff_propagate.specs.ClosureLaws.{AreQuiet}
 use Rattle.ff_propagate.proofs.Quiet.{IsQuiet, closure_forced, dead_forces}
-
-turn_one : (b : Bool) (s t : Order) → turn b s ≡ turn b t → s ≡ t
-turn_one b s t e = sym (turn_turn b s) ∙ ap (turn b) e ∙ turn_turn b t
 
 -- what a quiet constraint forces is known
 pub quiet_known : (kind : Kind) (ts : List Term) (f : ℕ → Option Order) (v : ℕ) (s : Order)
@@ -104,21 +103,6 @@ contradiction_clashes cons gs i j g h one two x = sides cons gs h.var g.value h.
     (subst (λ v. InClosure cons (Gives gs) v g.value) x.0
     (λ set closed. closed.base_held g.var g.value (i, record { given = g; there = one; variable = refl; value = refl })))
     (λ set closed. closed.base_held h.var h.value (j, record { given = h; there = two; variable = refl; value = refl }))
-
-order_is : (a b : Order) → is_order a b ≡ true → a ≡ b
-order_is Below Below h = refl
-order_is Below Above h = cc
-order_is Above Below h = cc
-order_is Above Above h = refl
-
-is_order_of : (a b : Order) → a ≡ b → is_order a b ≡ true
-is_order_of Below Below h = refl
-is_order_of Below Above h = cc
-is_order_of Above Below h = cc
-is_order_of Above Above h = refl
-
-some_same : {s t : Order} → Some s ≡ Some t → s ≡ t
-some_same e = cc
 
 -- an assignment that meets the constraints and holds the givens has the closure
 pub holds_closure : (cons : List Constraint) (gs : List Given) (a : ℕ → Order) → Meets cons a

@@ -1,6 +1,7 @@
 -- A given is set.
 use Rattle.std.proofs.Common.{List, ◌≡◌, ℕ, ◌+◌, ◌<◌, length, set, slice_get, Some, None, Option, sym, ap, ◌∙◌, subst, arith}
 use Rattle.std.proofs.lemmas.List.{get_or-set_same, get_or-set_other}
+use Rattle.ff_basics.proofs.Options.{same_value}
 use mathlib.Core.Logic.{dite}
 use native.Mathlib.Decide.{ℕ_discrete}
 use Rattle.ff_propagate.specs.declared.facts.Fact.{Fact}
@@ -13,9 +14,6 @@ use Rattle.ff_propagate.specs.Giving.{HasGivens, Contradicts, Agreed}
 
 some_none : {A : Type 0} {o : Option A} {g : A} → o ≡ Some g → o ≡ None → ⊥
 some_none p q = cc
-
-same_some : {A : Type 0} {o : Option A} {g h : A} → o ≡ Some g → o ≡ Some h → g ≡ h
-same_some p q = cc
 
 -- a further fact leaves the others
 pub more_set : (fs : List (Option Fact)) (v : ℕ) (h : Fact) → fact_at fs v ≡ None
@@ -35,13 +33,13 @@ given_step gs fs i g at l none gives =
           (λ e. (
             h,
             ap (λ (x : Given). fact_at (set fs g.var (Some h)) x.var)
-                (same_some is_f (ap (slice_get gs) e ∙ at)) ∙ here,
+                (same_value is_f (ap (slice_get gs) e ∙ at)) ∙ here,
           ))
           (λ ne. let old = gives.all k f (omega (arith, lt, ne)) is_f in
           (old.0, more_set fs g.var h none f.var old.0 old.1));
       by = λ v f is_f. dite (ℕ_discrete v g.var)
           (λ e.
-          let same : f ≡ h = same_some is_f (ap (fact_at (set fs g.var (Some h))) e ∙ here) in (
+          let same : f ≡ h = same_value is_f (ap (fact_at (set fs g.var (Some h))) e ∙ here) in (
             i,
             omega arith,
             (λ k x lt at_k var. let old = gives.all k x lt at_k in some_none old.1
@@ -61,11 +59,11 @@ pub agreed_on : (gs : List Given) (n : ℕ) (old new : List (Option Fact)) (g : 
     → HasGivens gs n old → Agreed gs n old → slice_get gs n ≡ Some g
     → ((h : Fact) → fact_at new g.var ≡ Some h → h.value ≡ g.value) → Agreed gs (n + 1) new
 agreed_on gs n old new g more gives before at here i f lt is_f h is_h = dite (ℕ_discrete i n)
-    (λ e. let same : f ≡ g = same_some is_f (ap (slice_get gs) e ∙ at) in
+    (λ e. let same : f ≡ g = same_value is_f (ap (slice_get gs) e ∙ at) in
     subst (λ (z : Given). fact_at new z.var ≡ Some h → h.value ≡ z.value) (sym same) (here h) is_h)
     (λ ne. let l : i < n = omega (arith, lt, ne) in
     let o = gives.all i f l is_f in
-    let same : o.0 ≡ h = same_some (more f.var o.0 o.1) is_h in
+    let same : o.0 ≡ h = same_value (more f.var o.0 o.1) is_h in
     before i f l is_f h (o.1 ∙ ap Some same))
 
 pub first_clash : (gs : List Given) (n j : ℕ) (fs : List (Option Fact)) (g : Given) → HasGivens gs n fs

@@ -4,6 +4,7 @@ use Rattle.std.proofs.Math.Seq.{drop-cons}
 use Rattle.std.proofs.lemmas.Option.{slice_get_within}
 use Rattle.std.proofs.lemmas.Bool.{eq-eqb, ne_eqb}
 use Rattle.std.proofs.lemmas.List.{get_or-set_same, get_or-set_other, length-set}
+use Rattle.ff_basics.proofs.Options.{some_same}
 use mathlib.Core.Logic.{dite}
 use native.Mathlib.Decide.{ℕ_discrete}
 use Rattle.ff_tables.specs.declared.orders.Order.{Order}
@@ -102,9 +103,6 @@ module _ (vars : ℕ) (cons : List Constraint) (gs : List Given) (t : Trail) (i 
           (λ e. ap (value_at new) e ∙ ap seen at_here ∙ sym f.given ∙ ap (cut t (suc i)) (sym e))
           (λ ne. ap seen (at_other w ne) ∙ told.same w ∙ cut_other t i w l (λ e. ne (sym e)));
     }
-
-some_same : {A : Type 0} {a b : A} → Some a ≡ Some b → a ≡ b
-some_same e = cc
 
 -- the fact that is noted, from what was read of the step
 pub told_by : (vars : ℕ) (cons : List Constraint) (gs : List Given) (t : Trail) (i : ℕ)

@@ -3,6 +3,7 @@ use Rattle.std.proofs.Common.{◌≡◌, ℕ, zero, suc, ◌+◌, ◌<◌, ◌�
 use Rattle.std.specs.Vec.{vec_capacity}
 use Rattle.std.proofs.lemmas.Bool.{cases_eq, cases_lt, eq-eqb, ne_eqb}
 use Rattle.std.proofs.lemmas.List.{get_or-set_same, get_or-set_other, length-set, length-append, drop-append-le, drop_all, get_or_append_left, get_or_push}
+use Rattle.ff_basics.proofs.Options.{some_none, some_same}
 use Rattle.ff_tables.specs.declared.orders.Order.{Order}
 use Rattle.ff_tables.specs.declared.terms.Constraint.{Constraint}
 use Rattle.ff_tables.specs.declared.known.Forced.TheVariants.{Nothing}
@@ -119,12 +120,6 @@ trail_set vars old v s by new is set l none =
             subst (λ (x : Step). x.var < vars) (sym (front_step old v s by new set i k)) (is.stepped i k))
       ];
     }
-
-some_none : {A : Type 0} {o : Option Order} {s : Order} → o ≡ Some s → o ≡ None → A
-some_none p q = cc
-
-some_same : {s t : Order} → Some s ≡ Some t → s ≡ t
-some_same e = cc
 
 -- what was known before the last step
 same_set : (old : Trail) (v : ℕ) (s : Order) (by : Option ℕ) (new : Trail) → IsStepped old v s by new

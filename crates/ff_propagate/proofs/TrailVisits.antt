@@ -2,6 +2,8 @@
 use Rattle.std.proofs.Common.{List, get_or, ◌≡◌, ℕ, ◌+◌, ◌<◌, ◌≤◌, ◌⊎◌, length, slice_get, slice_index, Option, Some, sym, ap, ◌∙◌, subst, inl, inr, arith}
 use Rattle.std.proofs.lemmas.Option.{slice_get_within, slice_get-get_or}
 use Rattle.std.proofs.lemmas.Bool.{cases_eq}
+use Rattle.ff_basics.proofs.Numbers.{scan}
+use Rattle.ff_basics.proofs.Options.{same_value}
 use Rattle.ff_tables.specs.declared.orders.Order.{Order}
 use Rattle.ff_tables.specs.declared.terms.Constraint.{Constraint}
 use Rattle.ff_tables.specs.Orders.{term_at}
@@ -11,7 +13,6 @@ use Rattle.ff_tables.proofs.Agreeing.{forces_more}
 use Rattle.ff_propagate.specs.declared.trail.Step.{Step}
 use Rattle.ff_propagate.specs.declared.trail.Trail.{Trail}
 use Rattle.ff_propagate.specs.Trails.{known, step_at, Grows, IsSilent, Rests, AreReadyBelow, AreReady}
-use Rattle.ff_propagate.proofs.Lists.{scan}
 
 -- where the values of its terms are the same, a constraint stays silent
 pub silent_same : (con : Constraint) (f g : ℕ → Option Order)
@@ -84,9 +85,6 @@ ends cons t head k list z almost c con at = sort (almost c con at)
     sort (inl p) = p
     sort (inr (j, a, b, e)) = absurd (omega (arith, a, b, z))
 
-pub same_con : {o : Option Constraint} {a b : Constraint} → o ≡ Some a → o ≡ Some b → a ≡ b
-same_con p q = cc
-
 pub con_read : (cons cs : List Constraint) (k : ℕ) (con : Constraint) → cs ≡ cons → k < length cons
     → con ≡ get_or cs k con → slice_get cons k ≡ Some con
 con_read cons cs k con same l is = slice_get-get_or cons k con l
@@ -104,7 +102,7 @@ pub passes_on : (cons : List Constraint) (old new : Trail) (head n : ℕ) (con :
 passes_on cons old new head n con x h there rests ready c d l at = elim (cases_eq c n) [
   | inl e ↦ lower new (length old.steps.items) head d h
       (subst (λ (z : Constraint). Rests new (length old.steps.items) z)
-      (same_con there (ap (slice_get cons) (sym e) ∙ at)) rests)
+      (same_value there (ap (slice_get cons) (sym e) ∙ at)) rests)
   | inr ne ↦ keeps cons old new head d x h (ready c d (omega (arith, l, ne)) at)
 ]
 

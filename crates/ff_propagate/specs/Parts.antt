@@ -5,6 +5,7 @@ use Rattle.ff_tables.specs.declared.orders.Order.{Order}
 use Rattle.ff_tables.specs.declared.terms.Constraint.{Constraint}
 use Rattle.ff_tables.specs.Orders.{term_at}
 
+-- a variable without a value
 pub record IsUndecided (vars : ℕ) (value : ℕ → Option Order) (v : ℕ) : Type 0 where
   pub variable : v < vars
   pub open_yet : value v ≡ None
@@ -33,6 +34,7 @@ IsLinkChain vars cons value v [] w = v ≡ w
 IsLinkChain vars cons value v (u ∷ rest) w = AreLinked vars cons value v u
     × IsLinkChain vars cons value u rest w
 
+-- a chain of constraints links the two undecided variables
 abbrev pub AreConnected : ℕ → List Constraint → (ℕ → Option Order) → ℕ → ℕ → Type 0
 AreConnected vars cons value v w = (chain : List ℕ) × IsLinkChain vars cons value v chain w
 

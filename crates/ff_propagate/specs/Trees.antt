@@ -20,9 +20,11 @@ With base tried v s = base v s ⊎ Contains tried (v, s)
 abbrev pub AtNode : List Constraint → (ℕ → Order → Type 0) → List (ℕ × Order) → ℕ → Order → Type 0
 AtNode cons base tried v s = InClosure cons (With base tried) v s
 
+-- what was tried clashes
 abbrev pub IsClashNode : List Constraint → (ℕ → Order → Type 0) → List (ℕ × Order) → Type 0
 IsClashNode cons base tried = Clashes cons (With base tried)
 
+-- the variable has a value once what was tried is closed
 abbrev pub IsDecidedAt : List Constraint → (ℕ → Order → Type 0) → List (ℕ × Order) → ℕ → Type 0
 IsDecidedAt cons base tried v = (s : Order) × AtNode cons base tried v s
 
@@ -60,6 +62,7 @@ visits Clash = None ∷ []
 visits (Full values) = Some values ∷ []
 visits (Fork below above) = None ∷ (visits below ++ visits above)
 
+-- the node as it is
 abbrev pub same : Option (List Order) → Option (List Order)
 same o = o
 
@@ -82,6 +85,7 @@ nodes_to (suc n) (Some values ∷ nodes) = 1 + nodes_to n nodes
 abbrev pub turns_to_page : List ℕ → Tree → ℕ → ℕ
 turns_to_page vars tree k = length vars * nodes_to (64 * k + 63) (visits tree)
 
+-- the budget covers all nodes of the tree
 abbrev pub IsFinished : List ℕ → Tree → ℕ → Type 0
 IsFinished vars tree budget = turns_of vars tree ≤ budget
 

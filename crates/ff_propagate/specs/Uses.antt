@@ -1,6 +1,7 @@
 -- For each variable the constraints that have it.
 use Rattle.std.specs.Prelude.{◌≡◌, ℕ, ◌<◌, ◌≤◌, List, [], map, Vec, length, slice_get, slice_index, slice_index_or, Some}
 use Rattle.std.specs.declared.alloc.Global.{Global}
+use Rattle.ff_basics.specs.NumberedLists.{list_at, lists_in}
 use Rattle.ff_tables.specs.declared.terms.Constraint.{Constraint}
 use Rattle.ff_tables.specs.Orders.{term_at}
 use Rattle.ff_propagate.specs.declared.uses.Uses.{Uses}
@@ -17,15 +18,9 @@ pub record IsUse (cons : List Constraint) (d v : ℕ) : Type 0 where
 abbrev pub IsFrom : List ℕ → ℕ → ℕ → Type 0
 IsFrom list k n = (j : ℕ) × (k ≤ j) × (j < length list) × (slice_index list j ≡ n)
 
+-- the number stands in the list
 abbrev pub IsIn : List ℕ → ℕ → Type 0
 IsIn list n = IsFrom list 0 n
-
-abbrev pub lists_in : List (Vec ℕ Global) → List (List ℕ)
-lists_in vs = map (λ v. v.items) vs
-
--- the list at a place, and none past the last
-abbrev pub list_at : List (List ℕ) → ℕ → List ℕ
-list_at lists v = slice_index_or lists v []
 
 -- the lists have each of the first n constraints at each of its variables, and no number of another
 pub record AreListed (cons : List Constraint) (n : ℕ) (lists : List (List ℕ)) : Type 0 where

@@ -1,8 +1,9 @@
 //! For each variable the constraints that have it.
 ghost use Rattle.std.specs.Prelude.{◌≡◌, ℕ, ◌+◌, ◌<◌, ◌≤◌, ◌^◌, ◌++◌, ◌∷◌, [], IfOk, length, replicate, Some, slice_get, slice_index, slice_set};
+ghost use Rattle.ff_basics.specs.NumberedLists.{list_at, lists_in};
 ghost use Rattle.ff_tables.specs.Systems.{AreFit};
 ghost use Rattle.ff_tables.specs.Orders.{term_at};
-ghost use Rattle.ff_propagate.specs.Uses.{list_at, lists_in, IsUse, IsIn, AreListed, AreUses};
+ghost use Rattle.ff_propagate.specs.Uses.{IsUse, IsIn, AreListed, AreUses};
 
 use ff_tables::{Constraint, NoMemory};
 use std::alloc::Global;

@@ -6,6 +6,7 @@ use Rattle.serde_json.specs.Find.{as_array}
 use Rattle.serde_json.specs.View.{items_of, items_view, view}
 use Rattle.serde_json.specs.declared.value.Value.{Value}
 use Rattle.std.specs.Option.{option_map}
+use Rattle.std.proofs.lemmas.Option.{none-some, same_Some}
 use Rattle.ff_read.specs.Spelling.{listed, list_of, point_in, all_of}
 
 pub listed-items_of : (ds : List Data) → listed (items_of ds) ≡ ds
@@ -30,26 +31,20 @@ get_view [] i v l e = absurd (omega (arith, l))
 get_view (w ∷ vs) zero v l e = rw e refl
 get_view (w ∷ vs) (suc i) v l e = get_view vs i v (omega (arith, l)) e
 
-none_some : {A : Type 0} (a : A) → None ≡ Some a → ⊥
-none_some a e = cc
-
-same_some : {A : Type 0} (a b : A) → Some a ≡ Some b → a ≡ b
-same_some a b e = cc
-
 more : {A : Type 0} (f : Data → Option A) (xs : List A) (a : A) → (o : Option (List A)) (p : Option (List A)) (b : A)
     → ((ys : List A) → o ≡ Some ys → p ≡ Some (ys ++ a ∷ [])) → option_map (λ rest. b ∷ rest) o ≡ Some xs → option_map (λ rest. b ∷ rest) p ≡ Some (xs ++ a ∷ [])
-more f xs a None p b h e = absurd (none_some xs e)
-more f xs a (Some ys) p b h e = ap (option_map (λ rest. b ∷ rest)) (h ys refl) ∙ ap (λ zs. Some (zs ++ a ∷ [])) (same_some (b ∷ ys) xs e)
+more f xs a None p b h e = absurd (none-some xs e)
+more f xs a (Some ys) p b h e = ap (option_map (λ rest. b ∷ rest)) (h ys refl) ∙ ap (λ zs. Some (zs ++ a ∷ [])) (same_Some (b ∷ ys) xs e)
 
 more_at : {A : Type 0} (f : Data → Option A) (xs : List A) (a : A) (o p : Option (List A)) (b : Option A)
     → ((ys : List A) → o ≡ Some ys → p ≡ Some (ys ++ a ∷ [])) → option_and_then (λ c. option_map (λ rest. c ∷ rest) o) b ≡ Some xs → option_and_then (λ c. option_map (λ rest. c ∷ rest) p) b ≡ Some (xs ++ a ∷ [])
-more_at f xs a o p None h e = absurd (none_some xs e)
+more_at f xs a o p None h e = absurd (none-some xs e)
 more_at f xs a o p (Some b) h e = more f xs a o p b h e
 
 suc_more : {A : Type 0} (f : Data → Option A) (ds : List Data) (i : ℕ) (xs : List A) (d : Data) (a : A)
     → all_of f (take i ds) ≡ Some xs → slice_get ds i ≡ Some d → f d ≡ Some a → all_of f (take (suc i) ds) ≡ Some (xs ++ a ∷ [])
-suc_more f [] i xs d a e g h = absurd (none_some d g)
-suc_more f (c ∷ ds) zero xs d a e g h = rw (same_some c d g, h, ← same_some [] xs e) refl
+suc_more f [] i xs d a e g h = absurd (none-some d g)
+suc_more f (c ∷ ds) zero xs d a e g h = rw (same_Some c d g, h, ← same_Some [] xs e) refl
 suc_more f (c ∷ ds) (suc i) xs d a e g h = more_at f xs a (all_of f (take i ds)) (all_of f (take (suc i) ds)) (f c) (λ ys s. suc_more f ds i ys d a s g h) e
 
 -- one item more
@@ -62,16 +57,16 @@ all_of-more f ds i xs d a e g h =
 -- ---- as many as there are items
 
 one_longer : {A : Type 0} (o : Option (List A)) (b : A) (xs : List A) (n : ℕ) → ((ys : List A) → o ≡ Some ys → length ys ≡ n) → option_map (λ rest. b ∷ rest) o ≡ Some xs → length xs ≡ suc n
-one_longer None b xs n h e = absurd (none_some xs e)
-one_longer (Some ys) b xs n h e = ap length (sym (same_some (b ∷ ys) xs e)) ∙ ap suc (h ys refl)
+one_longer None b xs n h e = absurd (none-some xs e)
+one_longer (Some ys) b xs n h e = ap length (sym (same_Some (b ∷ ys) xs e)) ∙ ap suc (h ys refl)
 
 longer_at : {A : Type 0} (o : Option (List A)) (b : Option A) (xs : List A) (n : ℕ) → ((ys : List A) → o ≡ Some ys → length ys ≡ n) → option_and_then (λ a. option_map (λ rest. a ∷ rest) o) b ≡ Some xs
     → length xs ≡ suc n
-longer_at o None xs n h e = absurd (none_some xs e)
+longer_at o None xs n h e = absurd (none-some xs e)
 longer_at o (Some b) xs n h e = one_longer o b xs n h e
 
 pub as_many : {A : Type 0} (f : Data → Option A) (ds : List Data) (xs : List A) → all_of f ds ≡ Some xs → length xs ≡ length ds
-as_many f [] xs e = ap length (sym (same_some [] xs e))
+as_many f [] xs e = ap length (sym (same_Some [] xs e))
 as_many f (d ∷ ds) xs e = longer_at (all_of f ds) (f d) xs (length ds) (λ ys s. as_many f ds ys s) e
 
 pub as_many_views : {A : Type 0} (f : Data → Option A) (vs : List Value) (xs : List A) → all_of f (map view vs) ≡ Some xs → length xs ≡ length vs

@@ -1,6 +1,7 @@
 -- Bytes come to one pattern or to one refusal.
 use Rattle.std.proofs.Common.{◌≡◌, ◌∙◌, ◌⊎◌, inl, inr, ℕ, ◌<◌, List, length, Bool, true, false, nat_eq, if◌then◌else◌, codes, Option, None, Some, option_map, option_and_then, arith, refl, sym, ap, subst}
 use Rattle.std.proofs.lemmas.Map.Views.{exact_unsigned_eq}
+use Rattle.std.proofs.lemmas.Option.{none-some, same_Some}
 use Rattle.serde_json.specs.Data.{Data}
 use Rattle.serde_json.specs.Find.{get}
 use Rattle.ff_types.specs.declared.limits.TheConstants.{MOST_VERTICES, MOST_EDGES}
@@ -18,17 +19,11 @@ use Rattle.ff_read.specs.Readings.{ReadingIsOne}
 use Rattle.ff_read.proofs.Good.{is_pattern}
 use Rattle.ff_read.proofs.Outcomes.{PointsOut, one_out, some_out}
 
-same_some : {A : Type 0} (a b : A) → Some a ≡ Some b → a ≡ b
-same_some a b e = cc
-
-none_some : {A : Type 0} (a : A) → None ≡ Some a → ⊥
-none_some a e = cc
-
 one_value : {A : Type 0} (o : Option A) (a b : A) → o ≡ Some a → o ≡ Some b → a ≡ b
-one_value o a b e f = same_some a b (sym e ∙ f)
+one_value o a b e f = same_Some a b (sym e ∙ f)
 
 no_value : {A : Type 0} (o : Option A) (a : A) → o ≡ None → o ≡ Some a → ⊥
-no_value o a e f = none_some a (sym e ∙ f)
+no_value o a e f = none-some a (sym e ∙ f)
 
 -- ---- the items
 
@@ -60,15 +55,15 @@ refused_out k r h = absurd h
 -- ---- the keys
 
 many_if : (b : Bool) (n : ℕ) (xs ds : List Data) (ms : Option (List Data)) → (b ≡ true → length xs ≡ n) → option_map Some (if b then Some xs else None) ≡ Some ms → ms ≡ Some ds → length ds ≡ n
-many_if true n xs ds ms h e f = ap length (sym (same_some xs ds (same_some (Some xs) ms e ∙ f))) ∙ h refl
-many_if false n xs ds ms h e f = absurd (none_some ms e)
+many_if true n xs ds ms h e f = ap length (sym (same_Some xs ds (same_Some (Some xs) ms e ∙ f))) ∙ h refl
+many_if false n xs ds ms h e f = absurd (none-some ms e)
 
 many_in : (n : ℕ) (o : Option (List Data)) (ds : List Data) (ms : Option (List Data)) → option_map Some (option_and_then (λ xs. if nat_eq (length xs) n then Some xs else None) o) ≡ Some ms → ms ≡ Some ds → length ds ≡ n
-many_in n None ds ms e f = absurd (none_some ms e)
+many_in n None ds ms e f = absurd (none-some ms e)
 many_in n (Some xs) ds ms e f = many_if (nat_eq (length xs) n) n xs ds ms (λ t. exact_unsigned_eq (length xs) n t) e f
 
 as_many_marks : (n : ℕ) (o : Option Data) (ms : Option (List Data)) → optional_marks n o ≡ Some ms → (ds : List Data) → ms ≡ Some ds → length ds ≡ n
-as_many_marks n None ms e ds f = absurd (none_some ds (same_some None ms e ∙ f))
+as_many_marks n None ms e ds f = absurd (none-some ds (same_Some None ms e ∙ f))
 as_many_marks n (Some a) ms e ds f = many_in n (list_of a) ds ms e f
 
 same_keys : (d : Data) (k l : Keys) → IsKeyed d k → IsKeyed d l → k ≡ l
@@ -129,13 +124,13 @@ one_of_items : (d : Data) (r s : Refusal) → Items d r → Items d s → r ≡ 
 unfolding Items
 one_of_items d r s g h =
     let same = same_keys d g.0 h.0 g.1 h.1 in
-    same_some r s (one_out h.0 (Some r) (Some s) (refused_out h.0 r (subst (λ (k : Keys). RefusesItems k r) same g.2)) (refused_out h.0 s h.2))
+    same_Some r s (one_out h.0 (Some r) (Some s) (refused_out h.0 r (subst (λ (k : Keys). RefusesItems k r) same g.2)) (refused_out h.0 s h.2))
 
 pattern_or_items : (d : Data) (p : Pattern) (r : Refusal) → Spells d p → Items d r → ⊥
 unfolding Items
 pattern_or_items d p r g h =
     let same = same_keys d g.keys h.0 g.keyed h.1 in
-    none_some r (one_out h.0 None (Some r) (spelled_out h.0 p (subst (λ (k : Keys). AreSpelled k p) same g.spelled)) (refused_out h.0 r h.2))
+    none-some r (one_out h.0 None (Some r) (spelled_out h.0 p (subst (λ (k : Keys). AreSpelled k p) same g.spelled)) (refused_out h.0 r h.2))
 
 -- a refusal of a key, or of items
 Cases : Data → Refusal → Type 0

@@ -1,6 +1,9 @@
 -- What reading comes to: a pattern, or the first thing that is wrong. It comes to one of these, and to no two.
 use Rattle.std.proofs.Common.{◌≡◌, ◌∙◌, ◌⊎◌, inl, inr, ℕ, zero, suc, ◌+◌, ◌<◌, ◌≤◌, List, [], ◌∷◌, ◌++◌, length, take, slice_get, get_or, Option, None, Some, option_map, option_and_then, arith, refl, sym, ap, subst}
 use Rattle.std.proofs.lemmas.List.{take_all}
+use Rattle.std.proofs.lemmas.Bool.{cases_lt}
+use Rattle.std.proofs.lemmas.Option.{none-some, same_Some}
+use Rattle.ff_basics.proofs.Numbers.{last_or, less_or}
 use Rattle.serde_json.specs.Data.{Data}
 use Rattle.ff_whole.specs.declared.points.Pt.{Pt}
 use Rattle.ff_whole.specs.Points.{IsNear}
@@ -39,14 +42,8 @@ PointsOut k r =
 
 -- ---- what a list spells, item by item
 
-same_some : {A : Type 0} (a b : A) → Some a ≡ Some b → a ≡ b
-same_some a b e = cc
-
-none_some : {A : Type 0} (a : A) → None ≡ Some a → ⊥
-none_some a e = cc
-
 one_value : {A : Type 0} (o : Option A) (a b : A) → o ≡ Some a → o ≡ Some b → a ≡ b
-one_value o a b e f = same_some a b (sym e ∙ f)
+one_value o a b e f = same_Some a b (sym e ∙ f)
 
 -- the first item and the rest
 Begins : {A : Type 0} → (Data → Option A) → Data → List Data → List A → Type 0
@@ -54,11 +51,11 @@ Begins {A = A} f d ds xs = (a : A) × (rest : List A) × (f d ≡ Some a) × (al
 
 begins_rest : {A : Type 0} (f : Data → Option A) (d : Data) (ds : List Data) (xs : List A) (a : A) (o : Option (List A)) → f d ≡ Some a → all_of f ds ≡ o → option_map (λ rest. a ∷ rest) o ≡ Some xs → Begins f d ds xs
 unfolding Begins
-begins_rest f d ds xs a None e g h = absurd (none_some xs h)
-begins_rest f d ds xs a (Some rest) e g h = (a, rest, e, g, sym (same_some (a ∷ rest) xs h))
+begins_rest f d ds xs a None e g h = absurd (none-some xs h)
+begins_rest f d ds xs a (Some rest) e g h = (a, rest, e, g, sym (same_Some (a ∷ rest) xs h))
 
 begins_at : {A : Type 0} (f : Data → Option A) (d : Data) (ds : List Data) (xs : List A) (o : Option A) → f d ≡ o → option_and_then (λ a. option_map (λ rest. a ∷ rest) (all_of f ds)) o ≡ Some xs → Begins f d ds xs
-begins_at f d ds xs None e h = absurd (none_some xs h)
+begins_at f d ds xs None e h = absurd (none-some xs h)
 begins_at f d ds xs (Some a) e h = begins_rest f d ds xs a (all_of f ds) e refl h
 
 begins : {A : Type 0} (f : Data → Option A) (d : Data) (ds : List Data) (xs : List A) → all_of f (d ∷ ds) ≡ Some xs → Begins f d ds xs
@@ -67,8 +64,8 @@ begins f d ds xs h = begins_at f d ds xs (f d) refl h
 -- item i spells item i
 spells_at : {A : Type 0} (f : Data → Option A) (us : List Data) (xs : List A) (i : ℕ) (d : Data) (z : A) → all_of f us ≡ Some xs → slice_get us i ≡ Some d → (f d ≡ Some (get_or xs i z)) × (i < length xs)
 unfolding Begins
-spells_at f [] xs i d z e g = absurd (none_some d g)
-spells_at f (u ∷ us) xs zero d z e g = let b = begins f u us xs e in rw (b.4, ← same_some u d g) (b.2, omega arith)
+spells_at f [] xs i d z e g = absurd (none-some d g)
+spells_at f (u ∷ us) xs zero d z e g = let b = begins f u us xs e in rw (b.4, ← same_Some u d g) (b.2, omega arith)
 spells_at f (u ∷ us) xs (suc i) d z e g =
     let b = begins f u us xs e in
     let r = spells_at f us b.1 i d z b.3 g in
@@ -77,9 +74,9 @@ spells_at f (u ∷ us) xs (suc i) d z e g =
 -- a front spells a front
 front_spells : {A : Type 0} (f : Data → Option A) (us : List Data) (xs : List A) (i : ℕ) (ys : List A) → all_of f us ≡ Some xs → all_of f (take i us) ≡ Some ys → ys ≡ take i xs
 unfolding Begins
-front_spells f [] xs zero ys e h = sym (same_some [] ys h)
-front_spells f [] xs (suc i) ys e h = rw (← same_some [] xs e, ← same_some [] ys h) refl
-front_spells f (u ∷ us) xs zero ys e h = sym (same_some [] ys h)
+front_spells f [] xs zero ys e h = sym (same_Some [] ys h)
+front_spells f [] xs (suc i) ys e h = rw (← same_Some [] xs e, ← same_Some [] ys h) refl
+front_spells f (u ∷ us) xs zero ys e h = sym (same_Some [] ys h)
 front_spells f (u ∷ us) xs (suc i) ys e h =
     let b = begins f u us xs e in
     let c = begins f u (take i us) ys h in
@@ -103,15 +100,12 @@ take_take (x ∷ xs) zero j l = refl
 take_take (x ∷ xs) (suc i) zero l = absurd (omega (arith, l))
 take_take (x ∷ xs) (suc i) (suc j) l = ap (λ zs. x ∷ zs) (take_take xs i j (omega (arith, l)))
 
-less_or : (e k : ℕ) → (e < k) ⊎ ((e ≡ k) ⊎ (k < e))
-less_or e k = grind arith
-
 -- ---- no two outcomes
 
 not_bad : {A : Type 0} (f : Data → Option A) (us : List Data) (xs : List A) (i : ℕ) (d : Data) → all_of f us ≡ Some xs → slice_get us i ≡ Some d → f d ≡ None → ⊥
 unfolding Begins
-not_bad f [] xs i d e g h = none_some d g
-not_bad f (u ∷ us) xs zero d e g h = let b = begins f u us xs e in none_some b.0 (sym h ∙ ap f (sym (same_some u d g)) ∙ b.2)
+not_bad f [] xs i d e g h = none-some d g
+not_bad f (u ∷ us) xs zero d e g h = let b = begins f u us xs e in none-some b.0 (sym h ∙ ap f (sym (same_Some u d g)) ∙ b.2)
 not_bad f (u ∷ us) xs (suc i) d e g h = let b = begins f u us xs e in not_bad f us b.1 i d b.3 g h
 
 bad_or_all : {A : Type 0} (f : Data → Option A) (ds : List Data) (i : ℕ) (xs : List A) → IsFirstBad f ds i → all_of f ds ≡ Some xs → ⊥
@@ -185,14 +179,14 @@ one_count ps qs es fs r s p e (inr (inr a)) (inr (inl b)) = absurd (omega (arith
 one_count ps qs es fs r s p e (inr (inr a)) (inr (inr b)) = a.2 ∙ sym b.2
 
 mapped_some : (o : Option (List Mark)) (ms : Option (List Mark)) → option_map Some o ≡ Some ms → (xs : List Mark) × (o ≡ Some xs)
-mapped_some None ms e = absurd (none_some ms e)
+mapped_some None ms e = absurd (none-some ms e)
 mapped_some (Some xs) ms e = (xs, refl)
 
 all_marks : (o : Option (List Data)) (ds : List Data) (e : ℕ) (ms : Option (List Mark)) → o ≡ Some ds → IsFirstBad mark_of ds e → optional_all_of mark_of o ≡ Some ms → ⊥
-all_marks None ds e ms h b s = none_some ds h
+all_marks None ds e ms h b s = none-some ds h
 all_marks (Some us) ds e ms h b s =
     let m = mapped_some (all_of mark_of us) ms s in
-    bad_or_all mark_of ds e m.0 b (subst (λ (xs : List Data). all_of mark_of xs ≡ Some m.0) (same_some us ds h) m.1)
+    bad_or_all mark_of ds e m.0 b (subst (λ (xs : List Data). all_of mark_of xs ≡ Some m.0) (same_Some us ds h) m.1)
 
 one_marks : (k : Keys) (ps qs : List Pt) (es fs : List EdgeEnds) (r s : Option Refusal) → ps ≡ qs → es ≡ fs → MarksOut k ps es r → MarksOut k qs fs s → r ≡ s
 one_marks k ps qs es fs r s p e (inl a) (inl b) =
@@ -237,9 +231,6 @@ or_first : {A : Type 0} (f : Data → Option A) (d : Data) (ds : List Data) (o :
 or_first f d ds None e rest = inr (0, record { item = d; is = refl; bad = e; front = []; before = refl })
 or_first f d ds (Some a) e rest = or_rest f d ds a e rest
 
-last_or : (k i : ℕ) → k < suc i → (k < i) ⊎ (k ≡ i)
-last_or k i h = grind arith
-
 near_more : (ps : List Pt) (n : ℕ) → ((v : ℕ) → v < n → IsNear (point_at ps v)) → IsNear (point_at ps n) → (v : ℕ) → (v < n) ⊎ (v ≡ n) → IsNear (point_at ps v)
 near_more ps n near here v (inl l) = near v l
 near_more ps n near here v (inr e) = subst (λ (i : ℕ). IsNear (point_at ps i)) (sym e) here
@@ -272,9 +263,6 @@ edges_so_far n ds (suc j) l bad refute =
     edges_so_far n ds j (omega (arith, l)) bad
     (λ xs s a. bad j (record { item = d.0; is = d.1; front = xs; before = s; edges = a; bad = λ new e h. refute (xs ++ new ∷ []) (next_spelled ds j xs d.0 new s d.1 e) (edges_more n xs new a h) }))
 
-longer_or : (m n : ℕ) → (m < n) ⊎ (n ≤ m)
-longer_or m n = grind arith
-
 counted : (ps : List Pt) (es : List EdgeEnds) → (MOST_VERTICES < length ps) ⊎ (length ps ≤ MOST_VERTICES) → (MOST_EDGES < length es) ⊎ (length es ≤ MOST_EDGES) → (r : Option Refusal) × Counted ps es r
 counted ps es (inl a) b = (Some (TooMany Vertices MOST_VERTICES), inl (a, refl))
 counted ps es (inr a) (inl b) = (Some (TooMany Edges MOST_EDGES), inr (inl (a, b, refl)))
@@ -283,13 +271,13 @@ counted ps es (inr a) (inr b) = (None, inr (inr (a, b, refl)))
 marked_out : (k : Keys) (ps : List Pt) (es : List EdgeEnds) (ds : List Data) → k.marks ≡ Some ds → ((ms : List Mark) × (all_of mark_of ds ≡ Some ms)) ⊎ ((e : ℕ) × IsFirstBad mark_of ds e)
     → (r : Option Refusal) × MarksOut k ps es r
 marked_out k ps es ds e (inl m) =
-    let c = counted ps es (longer_or MOST_VERTICES (length ps)) (longer_or MOST_EDGES (length es)) in
+    let c = counted ps es (cases_lt MOST_VERTICES (length ps)) (cases_lt MOST_EDGES (length es)) in
     (c.0, inr (Some m.0, rw (e, m.1) refl, c.1))
 marked_out k ps es ds e (inr b) = (Some (BadMark b.0), inl (ds, b.0, e, b.1, refl))
 
 marks_out : (k : Keys) (ps : List Pt) (es : List EdgeEnds) (o : Option (List Data)) → k.marks ≡ o → (r : Option Refusal) × MarksOut k ps es r
 marks_out k ps es None e =
-    let c = counted ps es (longer_or MOST_VERTICES (length ps)) (longer_or MOST_EDGES (length es)) in
+    let c = counted ps es (cases_lt MOST_VERTICES (length ps)) (cases_lt MOST_EDGES (length es)) in
     (c.0, inr (None, rw e refl, c.1))
 marks_out k ps es (Some ds) e = marked_out k ps es ds e (all_or_first mark_of ds)
 

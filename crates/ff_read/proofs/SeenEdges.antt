@@ -12,6 +12,7 @@ use Rattle.std.specs.List.{list_any}
 use Rattle.std.specs.Ordering.{is_eq, nat_cmp}
 use Rattle.std.specs.declared.cmp.Ordering.{Ordering}
 use Rattle.std.specs.declared.cmp.Ordering.TheVariants.{Less, Equal, Greater}
+use Rattle.ff_basics.proofs.Tests.{equal_of}
 use Rattle.ff_types.specs.declared.patterns.EdgeEnds.{EdgeEnds}
 use Rattle.ff_types.specs.Patterns.{edge_at, Joins}
 use Rattle.ff_read.specs.Refused.{AreEdges, IsNewEdge, IsSameEdge}
@@ -28,11 +29,6 @@ same_of a b c d la lb lc ld e = grind (arith, la, lb, lc, ld, e)
 
 pub key_apart : (n : ℕ) (e k : EdgeEnds) → n ≤ 2 ^ 32 → Joins n e → Joins n k → edge_key e ≡ edge_key k → IsSameEdge e k
 key_apart n e k l i j s = same_of e.a e.b k.a k.b (omega (arith, l, i.first)) (omega (arith, l, i.second)) (omega (arith, l, j.first)) (omega (arith, l, j.second)) s
-
-eq_of : (o : Ordering) → is_eq o ≡ true → o ≡ Equal
-eq_of Less h = absurd (false≢true h)
-eq_of Equal h = refl
-eq_of Greater h = absurd (false≢true h)
 
 is_itself : (q : ℕ) → is_at (nat_cmp q) q ≡ true
 is_itself q = ap is_eq (sym (nat_cmp_is q q Equal refl))
@@ -84,7 +80,7 @@ has_more n xs new old after h u k (inr e) =
 
 only_more : (n : ℕ) (xs : List EdgeEnds) (new : EdgeEnds) (old : BTreeSet ℕ) (q : ℕ) (b : Bool) → HaveSeen n xs old → is_at (nat_cmp (edge_key new)) q ≡ b
     → cond b true (contains nat_cmp old q) ≡ true → (k : ℕ) × (k < length (xs ++ new ∷ [])) × (edge_key (edge_at (xs ++ new ∷ []) k) ≡ q)
-only_more n xs new old q true h e t = (length xs, omega (arith, length-append xs (new ∷ [])), ap edge_key (at_new xs new) ∙ exact_unsigned (edge_key new) q (eq_of (nat_cmp (edge_key new) q) e))
+only_more n xs new old q true h e t = (length xs, omega (arith, length-append xs (new ∷ [])), ap edge_key (at_new xs new) ∙ exact_unsigned (edge_key new) q (equal_of (nat_cmp (edge_key new) q) e))
 only_more n xs new old q false h e t = let o = h.only q t in (o.0, omega (arith, o.1, length-append xs (new ∷ [])), ap edge_key (at_old xs new o.0 o.1) ∙ o.2)
 
 -- an edge whose number the set lacks is none of those before it

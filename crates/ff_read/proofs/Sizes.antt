@@ -6,6 +6,7 @@ use Rattle.std.specs.Str.{is_utf8}
 use Rattle.std.specs.Cmp.Lexicographic.{slice_cmp}
 use Rattle.std.specs.declared.cmp.Ordering.{Ordering}
 use Rattle.std.specs.declared.cmp.Ordering.TheVariants.{Less, Equal, Greater}
+use Rattle.std.proofs.lemmas.Option.{same_Some}
 use Rattle.json.specs.Token.{Token}
 use Rattle.json.specs.Lex.{Lexeme, token, comma, colon, Class, quote, backslash, operator, space, other, Mode, between, in_word, in_string, in_escape, class, lex_byte, lex, Place, fresh, after_value, after_comma, after_key, begins_colon, may_begin, may_close, if_allowed, place_token, punctuate, tokens}
 use Rattle.json.specs.Json as json
@@ -14,9 +15,6 @@ use Rattle.serde_json.specs.Find.{get, get_member, as_object}
 use Rattle.serde_json.specs.Read.{of_json, of_items, of_members, number_of, read, max_depth}
 use Rattle.ff_read.specs.Read.{HasFewItems}
 use Rattle.ff_read.specs.Spelling.{listed, list_of, only_object, json_of, object_of}
-
-same_some : {A : Type 0} (a b : A) → Some a ≡ Some b → a ≡ b
-same_some a b e = cc
 
 -- ---- tokens
 
@@ -297,7 +295,7 @@ then_most (Some j) n h = looser weight (size j) n (of_json j) h (of_json_most j)
 
 of_some : {A : Type 0} (f : A → ℕ) (n : ℕ) (o : Option A) (a : A) → o ≡ Some a → AtMost f n o → f a ≤ n
 of_some f n None a e h = absurd (cc)
-of_some {A = A} f n (Some b) a e h = subst (λ (x : A). f x ≤ n) (same_some b a e) h
+of_some {A = A} f n (Some b) a e h = subst (λ (x : A). f x ≤ n) (same_Some b a e) h
 
 read_most : (bytes : List ℕ) (d : Data) → read bytes ≡ Some d → weight d ≤ length bytes + 1
 read_most bytes d e =

@@ -8,9 +8,11 @@ use Rattle.serde_json.specs.declared.value.Value.{Value}
 use Rattle.ff_read.specs.declared.keys.Lists.{Lists}
 use Rattle.ff_read.specs.Spelling.{Keys}
 
+-- the items of an optional list, as data
 abbrev pub optional_view : Option (Bor (List Value)) → Option (List Data)
 optional_view marks = option_map (λ m. map view m.now) marks
 
+-- the three lists as the keys of an object
 abbrev pub keys_of : Lists → Keys
 keys_of l = record {
   vertices = map view l.vertices.now;

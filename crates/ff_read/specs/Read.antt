@@ -52,6 +52,7 @@ pub record AreFew (k : Keys) : Type 0 where
   pub vertices : length k.vertices < 2 ^ 32
   pub edges : length k.edges < 2 ^ 32
 
+-- so it is of the lists of the object
 pub record HasFewItems (d : Data) : Type 0 where
   pub few : (k : Keys) → IsKeyed d k → AreFew k
 
@@ -66,6 +67,7 @@ abbrev pub RefusesBytes : List ℕ → Refusal → Type 0
 RefusesBytes bytes NotJson = object_of bytes ≡ None
 RefusesBytes bytes r = (d : Data) × (object_of bytes ≡ Some d) × RefusesFold d r
 
+-- why bytes are no pattern: the refusal, or no memory
 abbrev pub IsNoPattern : List ℕ → No → Type 0
 IsNoPattern bytes (Refused r) = RefusesBytes bytes r
 IsNoPattern bytes no.NoMemory = Unit {0}

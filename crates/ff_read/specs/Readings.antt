@@ -4,6 +4,7 @@ use Rattle.ff_types.specs.declared.patterns.Pattern.{Pattern}
 use Rattle.ff_types.specs.declared.refusals.Refusal.{Refusal}
 use Rattle.ff_read.specs.Read.{IsReadAs, RefusesBytes}
 
+-- bytes come to one pattern or to one refusal, never to both and never to neither
 pub record ReadingIsOne : Type 0 where
   pub pattern : (bytes : List ℕ) (p q : Pattern) → IsReadAs bytes p → IsReadAs bytes q → (p.points ≡ q.points) × (p.edges ≡ q.edges) × (p.marks ≡ q.marks)
   pub refusal : (bytes : List ℕ) (r s : Refusal) → RefusesBytes bytes r → RefusesBytes bytes s → r ≡ s

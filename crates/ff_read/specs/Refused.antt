@@ -28,6 +28,7 @@ pub record IsFirstBad {A : Type 0} (f : Data → Option A) (ds : List Data) (i :
   pub front : List A
   pub before : all_of f (take i ds) ≡ Some front
 
+-- all points are within the limit of coordinates
 abbrev pub AreNear : List Pt → Type 0
 AreNear points = (v : ℕ) → v < length points → IsNear (point_at points v)
 
@@ -62,14 +63,17 @@ pub record IsFirstBadEdge (n : ℕ) (ds : List Data) (e : ℕ) : Type 0 where
 
 -- ---- what has been read
 
+-- the items spell these points, all of them near
 pub record ArePoints (ds : List Data) (points : List Pt) : Type 0 where
   pub spelled : all_of point_of ds ≡ Some points
   pub near : AreNear points
 
+-- the items spell these edges, which join vertices, once each
 pub record HaveEdges (n : ℕ) (ds : List Data) (edges : List EdgeEnds) : Type 0 where
   pub spelled : all_of ends_of ds ≡ Some edges
   pub good : AreEdges n edges
 
+-- the keys spell the pattern
 pub record AreRead (k : Keys) (points : List Pt) (edges : List EdgeEnds) (marks : Option (List Mark)) : Type 0 where
   pub are_points : ArePoints k.vertices points
   pub have_edges : HaveEdges (length points) k.edges edges
@@ -94,6 +98,7 @@ RefusesItems k (TooMany Vertices limit) = (points : List Pt) × (edges : List Ed
 RefusesItems k (TooMany Edges limit) = (points : List Pt) × (edges : List EdgeEnds) × (marks : Option (List Mark)) × AreRead k points edges marks × (length points ≤ MOST_VERTICES) × (MOST_EDGES < length edges) × (limit ≡ MOST_EDGES)
 RefusesItems k r = ⊥
 
+-- how an object is refused: by a key, or by an item
 abbrev pub RefusesFold : Data → Refusal → Type 0
 RefusesFold d (BadKey key) = RefusesKey d key
 RefusesFold d r = (k : Keys) × IsKeyed d k × RefusesItems k r
@@ -103,10 +108,12 @@ abbrev pub IsNoFold : Data → No → Type 0
 IsNoFold d (no.Refused r) = RefusesFold d r
 IsNoFold d no.NoMemory = Unit {0}
 
+-- a key is why it isn't read
 abbrev pub IsNoKey : Data → No → Type 0
 IsNoKey d (no.Refused (BadKey key)) = RefusesKey d key
 IsNoKey d n = ⊥
 
+-- an item is why it isn't read, or no memory
 abbrev pub IsNoItem : Keys → No → Type 0
 IsNoItem k (no.Refused r) = RefusesItems k r
 IsNoItem k no.NoMemory = Unit {0}

@@ -7,6 +7,7 @@ use Rattle.ff_types.specs.declared.patterns.EdgeEnds.{EdgeEnds}
 use Rattle.ff_types.specs.Patterns.{edge_at}
 use Rattle.ff_read.specs.Refused.{AreEdges, IsNewEdge}
 
+-- the two ends as one number, whichever comes first
 abbrev pub edge_key : EdgeEnds → ℕ
 edge_key e = min e.a e.b * 2 ^ 32 + max e.a e.b
 

@@ -17,6 +17,7 @@ use Rattle.ff_types.specs.declared.patterns.Mark.TheVariants.{B, M, V, F, U}
 abbrev pub json_of : List ℕ → Option Data
 json_of bytes = if is_utf8 bytes then read bytes else None
 
+-- the data, where it is an object
 abbrev pub only_object : Data → Option Data
 only_object d = if is_some (as_object d) then Some d else None
 
@@ -39,6 +40,7 @@ abbrev pub listed : Items → List Data
 listed no_items = []
 listed (item d ds) = d ∷ listed ds
 
+-- the items, where the data is an array
 abbrev pub list_of : Data → Option (List Data)
 list_of d = option_map listed (as_array d)
 
@@ -48,12 +50,15 @@ point_in (x ∷ y ∷ []) = option_and_then (λ a. option_map (λ b. record { x 
 point_in (x ∷ y ∷ z ∷ []) = option_and_then (λ c. if int_eq c (pos 0) then point_in (x ∷ y ∷ []) else None) (whole z)
 point_in ds = None
 
+-- the point that an array of two or three numbers spells
 abbrev pub point_of : Data → Option Pt
 point_of d = option_and_then point_in (list_of d)
 
+-- the number that spells a vertex
 abbrev pub vertex_of : Data → Option ℕ
 vertex_of d = option_and_then (λ n. if nat_lt n (2 ^ 32) then Some n else None) (natural d)
 
+-- the two vertices that a list of two items spells
 abbrev pub ends_in : List Data → Option EdgeEnds
 ends_in (a ∷ b ∷ []) = option_and_then (λ m. option_map (λ n. record { a = m; b = n }) (vertex_of b)) (vertex_of a)
 ends_in ds = None
@@ -62,6 +67,7 @@ ends_in ds = None
 abbrev pub ends_of : Data → Option EdgeEnds
 ends_of d = option_and_then ends_in (list_of d)
 
+-- the mark that one letter spells
 abbrev pub letter : List ℕ → Option Mark
 letter (c ∷ []) = if c == 66 then Some B else (if c == 77 then Some M else (if c == 86 then Some V else (if c == 70 then Some F else (if c == 85 then Some U else None))))
 letter cs = None
@@ -100,6 +106,7 @@ abbrev pub optional_marks : ℕ → Option Data → Option (Option (List Data))
 optional_marks n None = Some None
 optional_marks n (Some d) = option_map Some (marks_of n d)
 
+-- the list of marks, where the key is there
 abbrev pub marks_in : ℕ → Data → Option (Option (List Data))
 marks_in n d = optional_marks n (get (codes "edges_assignment") d)
 
@@ -111,6 +118,7 @@ pub record IsKeyed (d : Data) (k : Keys) : Type 0 where
 
 -- ---- the pattern
 
+-- what all items spell, where there is a list
 abbrev pub optional_all_of : {A : Type 0} → (Data → Option A) → Option (List Data) → Option (Option (List A))
 optional_all_of f None = Some None
 optional_all_of f (Some ds) = option_map Some (all_of f ds)

@@ -26,7 +26,7 @@ use Rattle.ff_reflect.specs.Walked.{met_of, IsTree}
 use Rattle.ff_reflect.specs.Flags.{AreTreeFlags, NoneBroken}
 use Rattle.ff_reflect.specs.Puts.{AreNearPoints}
 use Rattle.ff_reflect.specs.Standing.{IsReady, IsStanding}
-use Rattle.ff_reflect.specs.Folding.{IsRefused, WhyNotFolded, WhyNotPlaced}
+use Rattle.ff_reflect.specs.Folding.{IsRefused, WhyNoFolding, WhyNotPlaced}
 use Rattle.ff_reflect.proofs.Cases.{by_below}
 use Rattle.ff_reflect.proofs.Orders.{all_of}
 use Rattle.ff_reflect.proofs.Foldings.{known, broken_folds_not}
@@ -82,7 +82,7 @@ parity_refused pattern faces met tree up e h t f b =
 pub refused : (pattern : Pattern) (faces : Faces) (r : Refusal) → HasFaces (paper_of pattern faces) → RefusesFolding pattern.points faces.rings pattern.edges faces.sides faces.marks r → IsRefused pattern faces r
 refused pattern faces r h w = record { stop = w; none = refused_excludes pattern faces h r w }
 
-pub why_not : (pattern : Pattern) (faces : Faces) (n : No) → HasFaces (paper_of pattern faces) → WhyNotPlaced pattern faces n → WhyNotFolded pattern faces n
+pub why_not : (pattern : Pattern) (faces : Faces) (n : No) → HasFaces (paper_of pattern faces) → WhyNotPlaced pattern faces n → WhyNoFolding pattern faces n
 why_not pattern faces (Refused r) h w = refused pattern faces r h w
 why_not pattern faces NoMemory h w = tt
 

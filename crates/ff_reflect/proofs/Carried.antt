@@ -4,11 +4,12 @@ use lib.IntN.{neg_ℤ}
 use Rattle.std.proofs.lemmas.Int.{ints}
 use Rattle.std.proofs.lemmas.Bool.{false≢true, eqb-true, eqb-false}
 use Rattle.std.specs.List.{Contains}
+use Rattle.ff_basics.proofs.Memberships.{by_member, first_member, later_member, no_member}
+use Rattle.ff_basics.proofs.Numbers.{same_number}
 use Rattle.ff_whole.specs.declared.points.Pt.{Pt}
 use Rattle.ff_whole.specs.declared.places.Place.{Place}
 use Rattle.ff_whole.specs.Places.{IsPlace, place_of, same_place}
 use Rattle.ff_whole.specs.Convex.{point_at}
-use Rattle.ff_types.proofs.Memberships.{by_member, first_member, later_member, no_member}
 use Rattle.ff_types.specs.declared.patterns.Mark.{Mark}
 use Rattle.ff_types.specs.declared.patterns.Mark.TheVariants.{B, M, V, F, U}
 use Rattle.ff_types.specs.Patterns.{edge_at}
@@ -39,9 +40,6 @@ motions paper [] f = f
 motions paper (m ∷ tree) f = motions paper tree (with_child paper m f)
 
 -- ---- each is its parent's child
-
-same_number : (n : ℕ) → (n == n) ≡ true
-same_number n = by_test (n == n) (λ t. t) (λ e. absurd (eqb-false n n e refl))
 
 pub other_number : (a b : ℕ) → (a ≡ b → ⊥) → (a == b) ≡ false
 other_number a b f = by_test (a == b) (λ e. absurd (f (eqb-true a b e))) (λ e. e)

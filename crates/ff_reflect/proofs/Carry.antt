@@ -5,10 +5,10 @@ use Rattle.std.proofs.lemmas.List.{map-append, append_assoc, append-nil, take_mo
 use Rattle.std.proofs.lemmas.Option.{slice_get_within, get_or_from_slice_get}
 use Rattle.std.proofs.lemmas.List.Elements.{Contains-append_left, Contains-append_right}
 use Rattle.std.specs.List.{Contains}
+use Rattle.ff_basics.proofs.Memberships.{by_member, first_member, later_member, no_member}
 use Rattle.ff_whole.specs.declared.points.Pt.{Pt}
 use Rattle.ff_whole.specs.declared.places.Place.{Place}
 use Rattle.ff_whole.specs.Convex.{point_at}
-use Rattle.ff_types.proofs.Memberships.{by_member, first_member, later_member, no_member}
 use Rattle.ff_types.specs.Patterns.{edge_at}
 use Rattle.ff_types.specs.Faces.{ring_at}
 use Rattle.ff_types.specs.Foldings.{is_up}

@@ -5,6 +5,7 @@ use Rattle.std.proofs.lemmas.Bool.{false≢true}
 use Rattle.std.proofs.lemmas.List.{take-append-drop, drop_more, map-append, append_assoc, take_more, get_or_read, get_or_default}
 use Rattle.std.proofs.lemmas.List.Elements.{Contains-get_or, Contains-append_left}
 use Rattle.std.specs.List.{Contains}
+use Rattle.ff_basics.proofs.Memberships.{first_member}
 use Rattle.ff_whole.specs.declared.points.Pt.{Pt}
 use Rattle.ff_whole.specs.declared.sizes.TheConstants.{SLOPE_SIZE, POINT_SIZE}
 use Rattle.ff_whole.specs.Sizes.{IsBelow}
@@ -15,7 +16,6 @@ use Rattle.ff_whole.proofs.Signs.{linear, by_sign}
 use Rattle.ff_whole.proofs.Laws.{one-*ℤ}
 use Rattle.ff_whole.proofs.Signs.{*ℤ-distrib_sub}
 use Rattle.ff_whole.proofs.Bounds.{below_factor, below-sub, below-more}
-use Rattle.ff_types.proofs.Memberships.{first_member}
 use Rattle.ff_types.specs.declared.refusals.Refusal.{Refusal}
 use Rattle.ff_types.specs.declared.refusals.Refusal.TheVariants.{Inconsistent, Oversized}
 use Rattle.ff_types.specs.Rings.{corner}

@@ -3,7 +3,7 @@ use Rattle.std.proofs.Common.{◌≡◌, ℕ, zero, suc, ◌<◌, ◌==◌, arit
 use Rattle.std.proofs.lemmas.Bool.{eqb-true, eqb-false, false≢true}
 use Rattle.std.proofs.lemmas.List.Elements.{Contains-get_or}
 use Rattle.std.specs.List.{Contains}
-use Rattle.ff_types.proofs.Memberships.{by_member, first_member, later_member, no_member}
+use Rattle.ff_basics.proofs.Memberships.{by_member, first_member, later_member, no_member}
 use Rattle.ff_types.specs.Placing.{Meeting, has_number, firsts}
 use Rattle.ff_reflect.specs.Trees.{first_meetings, faces_across}
 use Rattle.ff_reflect.proofs.Cases.{by_test, by_same}

@@ -7,8 +7,9 @@ use Rattle.std.proofs.lemmas.List.Quantifiers.{position-Some}
 use Rattle.std.proofs.lemmas.List.Elements.{Contains-append_left, Contains-append_right, Contains-append_cases}
 use Rattle.std.specs.Prelude.{position, option_and_then, option_map}
 use Rattle.std.specs.List.{Contains, filter_map, cons_option, position_or_len}
+use Rattle.ff_basics.proofs.Memberships.{by_member, first_member, later_member, no_member}
+use Rattle.ff_basics.proofs.Lists.{filter_map_in, in_filter_map}
 use Rattle.ff_whole.specs.Convex.{next}
-use Rattle.ff_types.proofs.Memberships.{by_member, first_member, later_member, no_member}
 use Rattle.ff_types.specs.declared.patterns.EdgeEnds.{EdgeEnds}
 use Rattle.ff_types.specs.declared.faces.EdgeSides.{EdgeSides}
 use Rattle.ff_types.specs.Patterns.{edge_at}
@@ -21,25 +22,6 @@ use Rattle.ff_types.specs.Placing.{Meeting, other_of, meeting_over, meeting_at, 
 use Rattle.ff_reflect.proofs.Cases.{by_below, by_test}
 
 -- ---- lists
-
-pub in_filter_map : {A B : Type 0} (h : A → Option B) (xs : List A) (y : B) → Contains (filter_map h xs) y → (x : A) × Contains xs x × (h x ≡ Some y)
-in_filter_map h [] y m = absurd (no_member y m)
-in_filter_map {A} {B} h (x ∷ xs) y m = by (h x) refl (λ n. in_filter_map h xs y n) m where
-  by : (o : Option B) → h x ≡ o → (Contains (filter_map h xs) y → (x : A) × Contains xs x × (h x ≡ Some y)) → Contains (cons_option o (filter_map h xs)) y
-      → (z : A) × Contains (x ∷ xs) z × (h z ≡ Some y)
-  by None e f n = let r = f n in (r.0, later_member x xs r.0 r.1, r.2)
-  by (Some z) e f n = by_member z (filter_map h xs) y (λ d. (x, first_member x xs x refl, e ∙ ap Some d)) (λ k. let r = f k in (r.0, later_member x xs r.0 r.1, r.2)) n
-
-pub filter_map_in : {A B : Type 0} (h : A → Option B) (xs : List A) (x : A) (y : B) → Contains xs x → h x ≡ Some y → Contains (filter_map h xs) y
-filter_map_in h [] x y m e = absurd (no_member x m)
-filter_map_in {A} {B} h (z ∷ xs) x y m e = by (h z) refl (λ n. filter_map_in h xs x y n e) where
-  by : (o : Option B) → h z ≡ o → (Contains xs x → Contains (filter_map h xs) y) → Contains (cons_option o (filter_map h xs)) y
-  by None d f = by_member z xs x (λ same. absurd (none_some (sym d ∙ ap h same ∙ e))) f m where
-    none_some : None ≡ Some y → ⊥
-    none_some q = cc
-  by (Some w) d f = by_member z xs x (λ same. first_member w (filter_map h xs) y (the (sym d ∙ ap h same ∙ e))) (λ k. later_member w (filter_map h xs) y (f k)) m where
-    the : Some w ≡ Some y → w ≡ y
-    the q = cc
 
 pub position_is : {A : Type 0} (p : A → Bool) (xs : List A) (i : ℕ) (d : A) → i < length xs → p (slice_index_or xs i d) ≡ true
     → ((k : ℕ) → k < i → p (slice_index_or xs k d) ≡ false) → position p xs ≡ Some i

@@ -3,7 +3,7 @@ use Rattle.std.proofs.Common.{◌≡◌, ◌≢◌, ℕ, zero, suc, ◌<◌, ◌
 use Rattle.std.proofs.lemmas.List.{take-append-drop, length-take, map-append, get_or_append_left, get_or-take, length-map, get_or_default}
 use Rattle.std.proofs.lemmas.List.Elements.{Contains-get_or}
 use Rattle.std.specs.List.{Contains}
-use Rattle.ff_types.proofs.Memberships.{by_member, first_member, later_member, no_member, in_map}
+use Rattle.ff_basics.proofs.Memberships.{by_member, first_member, in_map, later_member, no_member}
 use Rattle.ff_types.specs.Placing.{Meeting, meetings_of, meetings, firsts, IsPlacingOrder, IsParent}
 use Rattle.ff_reflect.specs.Sheets.{Paper, HasFaces}
 use Rattle.ff_reflect.specs.Trees.{faces_across}

@@ -6,6 +6,8 @@ use Rattle.std.proofs.lemmas.List.{get_or_append_left, get_or_push, length_push}
 use Rattle.std.proofs.lemmas.List.Elements.{Contains-get_or}
 use Rattle.std.proofs.Math.Nat.{le_of_dvd, mul-div_cancel'}
 use Rattle.std.specs.List.{Contains}
+use Rattle.ff_basics.proofs.Lists.{place_of_member}
+use Rattle.ff_basics.proofs.Numbers.{last_or}
 use Prim.Native.Nat.{◌∣◌}
 use Rattle.ff_whole.specs.declared.points.Pt.{Pt}
 use Rattle.ff_whole.specs.declared.places.Place.{Place}
@@ -42,12 +44,9 @@ use Rattle.ff_reflect.proofs.Taken.{tree_orders}
 use Rattle.ff_reflect.proofs.Turned.{tree_flags, broken_at}
 use Rattle.ff_reflect.proofs.Stops.{IsFirstOf, first_of, turned_same}
 use Rattle.ff_reflect.proofs.Carry.{ordered, placed_so, placings_in}
-use Rattle.ff_reflect.proofs.Whole.{ArePut, put_folds, at_place}
+use Rattle.ff_reflect.proofs.Whole.{ArePut, put_folds}
 use Rattle.ff_reflect.proofs.Assembly.{tree_below, ready_of}
 use Rattle.ff_reflect.proofs.SomeTrees.{some_tree, some_flags}
-
-last_or : (k n : ℕ) → k < suc n → (k < n) ⊎ (k ≡ n)
-last_or k n l = grind arith
 
 -- where there is a point for each number below n, there is a list of them
 record AreChosen (P : ℕ → Pt → Type 0) (n : ℕ) (list : List Pt) : Type 0 where
@@ -136,7 +135,7 @@ module _ (paper : Paper) (none : (r : Refusal) → RefusesFolding paper.points p
       Lies v p = IsNear p × ((g : ℕ) → Contains all (g, v) → IsAt (pos scale) (carried g v) p)
 
       home_of : (v : ℕ) → IsFirstOf all v → (p : Pt) × Lies v p
-      home_of v f = (near.0, (near.1, λ g c. let i = at_place all (g, v) c in at g i.0 i.1)) where
+      home_of v f = (near.0, (near.1, λ g c. let i = place_of_member all (g, v) c in at g i.0 i.1)) where
         home : IsHome all f.place f.pair
         home = (f.there, λ k q l e z. f.first k q l e (z ∙ f.is))
 

@@ -3,7 +3,7 @@ use Rattle.std.proofs.Common.{◌≡◌, ◌∙◌, ℕ, zero, suc, ◌+◌, ◌
 use Rattle.std.proofs.lemmas.List.{take_all, append_assoc, append-nil, length-map, length-replicate}
 use Rattle.std.proofs.lemmas.List.Elements.{Contains-get_or}
 use Rattle.std.specs.List.{Contains}
-use Rattle.ff_types.proofs.Memberships.{first_member, later_member}
+use Rattle.ff_basics.proofs.Memberships.{first_member, later_member}
 use Rattle.ff_types.specs.declared.patterns.Mark.{Mark}
 use Rattle.ff_types.specs.Placing.{Meeting, meetings, meetings_of}
 use Rattle.ff_types.specs.Foldings.{is_up}

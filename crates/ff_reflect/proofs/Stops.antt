@@ -6,6 +6,7 @@ use Rattle.std.proofs.lemmas.Int.{ints, unsigned_abs-mul}
 use Rattle.std.proofs.lemmas.Bool.{false≢true}
 use Rattle.std.proofs.Math.Nat.{dvd-mul_right, mul-div_cancel'}
 use Rattle.std.specs.List.{Contains}
+use Rattle.ff_basics.proofs.Memberships.{by_member, no_member}
 use Rattle.ff_whole.specs.declared.points.Pt.{Pt}
 use Rattle.ff_whole.specs.declared.places.Place.{Place}
 use Rattle.ff_whole.specs.declared.sizes.TheConstants.{POINT_SIZE}
@@ -17,7 +18,6 @@ use Rattle.ff_whole.specs.Meeting.{IsReduced}
 use Rattle.ff_whole.proofs.Signs.{linear, pos-mul, cancel_left}
 use Rattle.ff_whole.proofs.Bounds.{below_factor}
 use Rattle.ff_whole.proofs.Ring.{var, ◌⊗◌, solve}
-use Rattle.ff_types.proofs.Memberships.{by_member, no_member}
 use Rattle.ff_types.specs.Foldings.{scaled}
 use Rattle.ff_types.specs.FoldRefusals.{IsHome, IsTornAt, IsNearAt, FitsUpTo, IsTooFarAt, GoesUpTo}
 use Rattle.ff_reflect.specs.declared.image.Image.{Image}

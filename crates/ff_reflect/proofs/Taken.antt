@@ -4,7 +4,7 @@ use Rattle.std.proofs.Common.{Vec, Global, vec_len}
 use Rattle.std.proofs.lemmas.List.{take_more, take_all, append_assoc, append-nil, map-append, length-append, length-map, take-append-le}
 use Rattle.std.proofs.lemmas.List.Elements.{Contains-append_left, filter_map-append, Contains-get_or}
 use Rattle.std.specs.List.{Contains, filter_map, cons_option}
-use Rattle.ff_types.proofs.Memberships.{by_member, first_member, later_member}
+use Rattle.ff_basics.proofs.Memberships.{by_member, first_member, later_member}
 use Rattle.ff_types.specs.Placing.{Meeting, meetings, meetings_of, meeting_at, firsts, IsPlacingOrder}
 use Rattle.ff_reflect.specs.declared.walk.Meeting.{Meeting as CodeMeeting}
 use Rattle.ff_reflect.specs.declared.walk.Walk.{Walk}

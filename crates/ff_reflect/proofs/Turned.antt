@@ -3,7 +3,7 @@ use Rattle.std.proofs.Common.{◌≡◌, ◌≢◌, ◌∙◌, ℕ, zero, suc, �
 use Rattle.std.proofs.lemmas.Bool.{false≢true}
 use Rattle.std.proofs.lemmas.List.{length-set, get_or-set_same, get_or-set_other, get_or_default}
 use Rattle.std.specs.List.{Contains}
-use Rattle.ff_types.proofs.Memberships.{by_member, first_member, later_member, no_member}
+use Rattle.ff_basics.proofs.Memberships.{by_member, first_member, later_member, no_member}
 use Rattle.ff_types.specs.declared.patterns.Mark.{Mark}
 use Rattle.ff_types.specs.declared.patterns.Mark.TheVariants.{B, M, V, F, U}
 use Rattle.ff_types.specs.Faces.{mark_at}

@@ -6,6 +6,8 @@ use Rattle.std.proofs.lemmas.List.{length-set, get_or-set_same, get_or-set_other
 use Rattle.std.proofs.lemmas.List.Elements.{Contains-get_or, Contains-append_left, Contains-push, Contains-push_cases}
 use Rattle.std.proofs.Math.Nat.{one-dvd}
 use Rattle.std.specs.List.{Contains}
+use Rattle.ff_basics.proofs.Memberships.{by_member, first_member, in_map, later_member, no_member}
+use Rattle.ff_basics.proofs.Lists.{place_of_member}
 use Rattle.ff_whole.specs.declared.points.Pt.{Pt}
 use Rattle.ff_whole.specs.declared.sizes.TheConstants.{SLOPE_SIZE}
 use Rattle.ff_whole.specs.Sizes.{IsBelow}
@@ -14,7 +16,6 @@ use Rattle.ff_whole.specs.declared.places.Place.{Place}
 use Rattle.ff_whole.specs.Places.{place_of}
 use Rattle.ff_whole.specs.Convex.{point_at}
 use Rattle.ff_whole.proofs.Laws.{one-*ℤ}
-use Rattle.ff_types.proofs.Memberships.{by_member, first_member, later_member, no_member, in_map}
 use Rattle.ff_types.specs.declared.patterns.Mark.{Mark}
 use Rattle.ff_types.specs.declared.patterns.Mark.TheVariants.{B, M, V, F, U}
 use Rattle.ff_types.specs.Rings.{corner, corners}
@@ -135,10 +136,6 @@ fits_then M a b h = not_not a a (not b) refl h
 fits_then V a b h = not_not a a (not b) refl h
 fits_then U a b h = not_not a a (not b) refl h
 
-pub at_place : {A : Type 0} (ms : List A) (m : A) → Contains ms m → (i : ℕ) × (slice_get ms i ≡ Some m)
-at_place [] m c = absurd (no_member m c)
-at_place (x ∷ ms) m c = by_member x ms m (λ e. (0, ap Some e)) (λ k. let r = at_place ms m k in (suc r.0, r.1)) c
-
 -- the points at a scale where the faces carry their vertices, at no greater scale than they need
 pub record ArePut (paper : Paper) (tree : List Meeting) (up : List Bool) (scale : ℤ) (images : List Pt) : Type 0 where
   pub carried : ℕ → ℕ → Place
@@ -207,7 +204,7 @@ put_folds paper tree up scale images r h = record {
         let sd = a.sides_are e le in
         let there = face_on (edge_at paper.edges e) (sides_at paper.sides e) f sd p in
         let m = met paper r.has_faces e f g le (inl (p, q)) in
-        let at = at_place (all_of paper (order_along tree)) _ (meetings_in paper.rings paper.edges paper.sides (order_along tree) f _ (in_order f there) m) in
+        let at = place_of_member (all_of paper (order_along tree)) _ (meetings_in paper.rings paper.edges paper.sides (order_along tree) f _ (in_order f there) m) in
         fits_then (mark_at paper.marks e) (is_up up f) (is_up up g) (r.whole at.0 _ at.1)
       where
         face_on : (x : EdgeEnds) (s : EdgeSides) (f : ℕ) → AreSides paper.rings x s → s.left ≡ Some f → f < length paper.rings

@@ -36,9 +36,10 @@ pub record IsRefused (pattern : Pattern) (faces : Faces) (r : Refusal) : Type 0 
   pub stop : RefusesFolding pattern.points faces.rings pattern.edges faces.sides faces.marks r
   pub none : Excludes pattern faces r
 
-abbrev pub WhyNotFolded : Pattern → Faces → No → Type 0
-WhyNotFolded pattern faces (Refused r) = IsRefused pattern faces r
-WhyNotFolded pattern faces NoMemory = Unit {0}
+-- why there is no folding: the refusal, or no memory
+abbrev pub WhyNoFolding : Pattern → Faces → No → Type 0
+WhyNoFolding pattern faces (Refused r) = IsRefused pattern faces r
+WhyNoFolding pattern faces NoMemory = Unit {0}
 
 -- the same, before it is known what is excluded
 abbrev pub WhyNotPlaced : Pattern → Faces → No → Type 0

@@ -16,6 +16,7 @@ use Rattle.ff_reflect.specs.declared.sizes.TheConstants.{LENGTH_SIZE, IMAGE_SIZE
 abbrev pub image_x : Bool → Pt → Pt → Pt → Pt → Pt → ℤ
 image_x up p q r u v = (spread p q q *ℤ u.x) +ℤ ((spread p q r *ℤ (v.x -ℤ u.x)) -ℤ (signed up (turn p q r) *ℤ (v.y -ℤ u.y)))
 
+-- and its y
 abbrev pub image_y : Bool → Pt → Pt → Pt → Pt → Pt → ℤ
 image_y up p q r u v = (spread p q q *ℤ u.y) +ℤ ((spread p q r *ℤ (v.y -ℤ u.y)) +ℤ (signed up (turn p q r) *ℤ (v.x -ℤ u.x)))
 

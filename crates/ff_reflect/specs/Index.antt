@@ -11,6 +11,7 @@ use Rattle.ff_reflect.specs.declared.sizes.TheConstants.{CHAINS}
 abbrev pub chain_between : ℕ → ℕ → ℕ
 chain_between u v = (5 * min u v + max u v) % CHAINS
 
+-- the chain in which the edge is kept
 abbrev pub chain_at : List EdgeEnds → ℕ → ℕ
 chain_at edges e = chain_between (edge_at edges e).a (edge_at edges e).b
 

@@ -18,6 +18,7 @@ use Rattle.ff_reflect.specs.declared.image.Image.{Image}
 use Rattle.ff_reflect.specs.declared.placed.Placed.{Placed}
 use Rattle.ff_reflect.specs.declared.sizes.TheConstants.{LENGTH_SIZE, IMAGE_SIZE}
 
+-- nothing is placed yet
 pub record IsNothing (vertices : ℕ) (s : Placed) : Type 0 where
   pub scale : s.scale ≡ pos 1
   pub points : s.points.items ≡ replicate vertices origin
@@ -35,10 +36,12 @@ pub record IsHere (image : Image) (p : Pt) : Type 0 where
   pub x : image.n *ℤ p.x ≡ image.x
   pub y : image.n *ℤ p.y ≡ image.y
 
+-- the point, which is near
 pub record IsNearPoint (x y : ℤ) (p : Pt) : Type 0 where
   pub is : p ≡ record { x = x; y = y }
   pub near : IsNear p
 
+-- all points are near
 abbrev pub AreNearPoints : List Pt → Type 0
 AreNearPoints points = (u : ℕ) → IsNear (point_at points u)
 
@@ -69,11 +72,13 @@ pub record IsTooFar (image : Image) (old : Placed) : Type 0 where
   pub lowest : IsReduced image.x image.y image.n place
   pub far : (IsNear (record { x = place.x; y = place.y }) → ⊥) ⊎ IsTooLarge place.w old.points.items
 
+-- what is placed stays as it was
 pub record IsSame (old new : Placed) : Type 0 where
   pub scale : new.scale ≡ old.scale
   pub points : new.points.items ≡ old.points.items
   pub placed : new.placed.items ≡ old.placed.items
 
+-- the vertex is placed
 abbrev pub has_place : Placed → ℕ → Bool
 has_place s v = slice_index_or s.placed.items v false
 
@@ -108,6 +113,7 @@ Carries points ends up v old new = (image : Image) × IsImageOf (hinge_at points
 abbrev pub StopsCarrying : List Pt → EdgeEnds → Bool → ℕ → Placed → Refusal → Type 0
 StopsCarrying points ends up v old r = (image : Image) × IsImageOf (hinge_at points ends up old.points.items) (point_at points v) image × Refuses v image old r
 
+-- the vertex is an end of the edge
 abbrev pub IsEnd : EdgeEnds → ℕ → Type 0
 IsEnd ends v = (v ≡ ends.a) ⊎ (v ≡ ends.b)
 

@@ -18,9 +18,11 @@ pub record Paper : Type 0 where
   pub sides : List EdgeSides
   pub marks : List Mark
 
+-- a pattern with its faces, as one record
 abbrev pub paper_of : Pattern → Faces → Paper
 paper_of pattern faces = record { points = pattern.points; edges = pattern.edges; given = pattern.marks; rings = faces.rings; sides = faces.sides; marks = faces.marks }
 
+-- it is a drawing with these faces
 pub record HasFaces (paper : Paper) : Type 0 where
   pub drawing : IsDrawing paper.points paper.edges
   pub faces : AreFaces paper.points paper.edges paper.given paper.rings paper.sides paper.marks

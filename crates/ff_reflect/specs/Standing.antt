@@ -45,6 +45,7 @@ pub record IsReady (paper : Paper) (tree : List Meeting) (up : List Bool) : Type
   pub whole : NoneBroken (meetings paper.rings paper.edges paper.sides (order_along tree)) paper.marks up
   pub as_many : length up ≡ length paper.rings
 
+-- what is placed stands where the walk carries it
 pub record IsStanding (paper : Paper) (tree : List Meeting) (up : List Bool) (done : List (ℕ × ℕ)) (s : Placed) : Type 0 where
   pub carried : ℕ → ℕ → Place
   pub so : IsCarried paper.points paper.rings paper.edges (meetings paper.rings paper.edges paper.sides (order_along tree)) up (order_along tree) carried

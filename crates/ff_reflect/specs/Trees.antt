@@ -9,6 +9,7 @@ abbrev pub first_meetings : List ℕ → List Meeting → List Meeting
 first_meetings seen [] = []
 first_meetings seen (m ∷ ms) = if has_number m.across seen then first_meetings seen ms else m ∷ first_meetings (m.across ∷ seen) ms
 
+-- the faces that the meetings lead to
 abbrev pub faces_across : List Meeting → List ℕ
 faces_across ms = map (λ m. m.across) ms
 
@@ -27,5 +28,6 @@ pub record IsBelow (faces edges : ℕ) (m : Meeting) : Type 0 where
   pub across : m.across < faces
   pub edge : m.edge < edges
 
+-- the numbers of all meetings are in range
 abbrev pub AreBelow : ℕ → ℕ → List Meeting → Type 0
 AreBelow faces edges ms = (i : ℕ) (m : Meeting) → slice_get ms i ≡ Some m → IsBelow faces edges m

@@ -8,9 +8,11 @@ use Rattle.ff_reflect.specs.declared.walk.Walk.{Walk}
 use Rattle.ff_reflect.specs.Sheets.{Paper}
 use Rattle.ff_reflect.specs.Trees.{first_meetings, order_along, Grows}
 
+-- the meeting as definitions have it
 abbrev pub meeting_of : CodeMeeting → Meeting
 meeting_of m = record { face = m.face; edge = m.edge; across = m.across }
 
+-- so of a list
 abbrev pub met_of : List CodeMeeting → List Meeting
 met_of ms = map meeting_of ms
 
@@ -29,6 +31,7 @@ pub record AreWalked (faces : ℕ) (met tree : List Meeting) (seen : List Bool) 
   pub seen_so : (g : ℕ) → g < faces → slice_index_or seen g false ≡ has_number g (order_along tree)
   pub counted : suc (length tree) + unseen seen ≡ faces
 
+-- the walk has met these faces, in order
 abbrev pub IsWalk : ℕ → Walk → Type 0
 IsWalk faces w = AreWalked faces (met_of w.met.items) (met_of w.tree.items) w.seen.items
 

@@ -2,7 +2,7 @@
 ghost use Rattle.std.specs.Prelude.{◌≡◌, ◌<◌, length, MatchResult};
 ghost use Rattle.ff_types.specs.Drawings.{IsDrawing};
 ghost use Rattle.ff_types.specs.Sides.{AreFaces};
-ghost use Rattle.ff_reflect.specs.Folding.{IsNearFolding, WhyNotFolded};
+ghost use Rattle.ff_reflect.specs.Folding.{IsNearFolding, WhyNoFolding};
 
 use crate::flags::{first_broken, flags_of};
 use crate::place::place;
@@ -20,7 +20,7 @@ use std::alloc::Global;
 pub fn fold(alloc: Global, pattern: &Pattern, faces: &Faces) -> Result<Folded, No>
     requires drawing { IsDrawing pattern.now.points pattern.now.edges }
     requires faces { AreFaces pattern.now.points pattern.now.edges pattern.now.marks faces.now.rings faces.now.sides faces.now.marks }
-    ensures { MatchResult result (IsNearFolding pattern.now faces.now) (WhyNotFolded pattern.now faces.now) }
+    ensures { MatchResult result (IsNearFolding pattern.now faces.now) (WhyNoFolding pattern.now faces.now) }
 {
     let count = faces.rings.as_slice().len();
     if count == 0 {
@@ -45,7 +45,7 @@ fn no_faces(alloc: Global, pattern: &Pattern, faces: &Faces) -> Result<Folded, N
     requires drawing { IsDrawing pattern.now.points pattern.now.edges }
     requires faces { AreFaces pattern.now.points pattern.now.edges pattern.now.marks faces.now.rings faces.now.sides faces.now.marks }
     requires none { length faces.now.rings ≡ 0 }
-    ensures { MatchResult result (IsNearFolding pattern.now faces.now) (WhyNotFolded pattern.now faces.now) }
+    ensures { MatchResult result (IsNearFolding pattern.now faces.now) (WhyNoFolding pattern.now faces.now) }
 {
     let _ = faces.rings.as_slice().len();
     let placed = Placed::new(alloc, pattern.points.as_slice().len())?;

@@ -33,9 +33,11 @@ corner_text p = codes " " ++ signed_decimal p.x ++ codes "," ++ signed_decimal p
 abbrev pub face_line : ℕ → Bool → List Pt → List ℕ
 face_line face up corners = codes "face " ++ decimal face ++ (if up then codes " up" else codes " down") ++ flat_map corner_text corners ++ codes "\n"
 
+-- the line of a face of the folding
 abbrev pub face_of : Faces → Folded → ℕ → List ℕ
 face_of faces folded f = face_line f (is_up folded.up f) (map (point_at folded.points) (ring_at faces.rings f))
 
+-- the word for an order, or that there is none
 abbrev pub order_name : Option Order → List ℕ
 order_name None = codes "undecided"
 order_name (Some Below) = codes "below"
@@ -45,6 +47,7 @@ order_name (Some Above) = codes "above"
 abbrev pub pair_line : ℕ → ℕ × ℕ → Option Order → List ℕ
 pair_line n pair order = codes "pair " ++ decimal n ++ codes " " ++ decimal pair.0 ++ codes " " ++ decimal pair.1 ++ codes " " ++ order_name order ++ codes "\n"
 
+-- the line of a pair of the case
 abbrev pub pair_of : List (ℕ × ℕ) → List (Option Fact) → ℕ → List ℕ
 pair_of pairs facts n = pair_line n (slice_index_or pairs n (0, 0)) (value_at facts n)
 
@@ -53,6 +56,7 @@ abbrev pub pair_lines : List (ℕ × ℕ) → Option (List (Option Fact)) → Li
 pair_lines pairs None = []
 pair_lines pairs (Some facts) = lines_of (pair_of pairs facts) (length pairs)
 
+-- the head of a report: counts, faces, and pairs where there is a board
 abbrev pub head : Faces → Folded → Case → Option (List (Option Fact)) → List ℕ
 head faces folded case facts =
     counts_line (length faces.rings) folded.scale (length case.pairs) (length case.system.constraints) ++ lines_of (face_of faces folded) (length faces.rings) ++ pair_lines case.pairs facts

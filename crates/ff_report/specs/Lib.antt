@@ -1,3 +1,4 @@
 pub mod Refusals
 pub mod Heads
 pub mod Parts
+pub mod Lines

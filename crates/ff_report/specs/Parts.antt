@@ -13,6 +13,7 @@ use Rattle.ff_report.specs.Refusals.{spaced}
 abbrev pub part_line : ℕ → List ℕ → List ℕ
 part_line number vars = codes "part " ++ decimal number ++ codes " variables" ++ flat_map (λ v. spaced (decimal v)) vars ++ codes "\n"
 
+-- the sign of an order
 abbrev pub sign : Order → List ℕ
 sign Below = codes "-"
 sign Above = codes "+"
@@ -21,6 +22,7 @@ sign Above = codes "+"
 abbrev pub solution_line : ℕ → List Order → List ℕ
 solution_line i values = codes "solution " ++ decimal i ++ codes " " ++ flat_map sign values ++ codes "\n"
 
+-- the line of a solution
 abbrev pub solution_of : List (List Order) → ℕ → List ℕ
 solution_of solutions i = solution_line i (slice_index_or solutions i [])
 
@@ -30,5 +32,6 @@ outcome_lines (Solutions solutions) = codes "solutions " ++ decimal (length solu
 outcome_lines None = codes "none\n"
 outcome_lines Unfinished = codes "unfinished\n"
 
+-- all lines of a part
 abbrev pub part_lines : ℕ → List ℕ → PartOutcome → List ℕ
 part_lines number vars outcome = part_line number vars ++ outcome_lines outcome

@@ -9,6 +9,7 @@ use Rattle.ff_types.specs.declared.refusals.What.{What}
 use Rattle.ff_types.specs.declared.refusals.What.TheVariants as what
 use Rattle.ff_types.specs.declared.refusals.What.TheVariants.{Vertices, Edges, Commands, Faces, Cells, Entries, Pairs, Constraints}
 
+-- the word for a key
 abbrev pub key_name : Key → List ℕ
 key_name Fold = codes "fold"
 key_name VerticesCoords = codes "vertices_coords"
@@ -18,6 +19,7 @@ key_name Pins = codes "pins"
 key_name Log = codes "log"
 key_name Viewers = codes "viewers"
 
+-- the word for what there is too much of
 abbrev pub what_name : What → List ℕ
 what_name Vertices = codes "vertices"
 what_name Edges = codes "edges"
@@ -53,6 +55,7 @@ refusal_name (Oversized v) = codes "18 oversized"
 refusal_name (TooMany w n) = codes "19 too many"
 refusal_name (BadScript viewer line) = codes "20 bad script"
 
+-- the text after a space
 abbrev pub spaced : List ℕ → List ℕ
 spaced text = codes " " ++ text
 
@@ -79,5 +82,6 @@ refusal_place (Parity e) = spaced (decimal e)
 refusal_place (Inconsistent v) = spaced (decimal v)
 refusal_place (Oversized v) = spaced (decimal v)
 
+-- the line of a refusal
 abbrev pub refusal_line : Refusal → List ℕ
 refusal_line r = codes "refused " ++ refusal_name r ++ refusal_place r ++ codes "\n"

@@ -1,10 +1,12 @@
-//! The texts of a report: its head, its parts, and the lines of refusals.
+//! The texts of a report: its head, its parts and its other lines, and the lines of refusals.
 #![tactic(auto)]
 
 mod heads;
+mod lines;
 mod parts;
 mod refusals;
 
 pub use heads::head_text;
+pub use lines::{Last, clash_text, last_text, parts_text};
 pub use parts::{PartOutcome, part_text};
 pub use refusals::refusal_text;

@@ -14,8 +14,8 @@ use Rattle.ff_parts.specs.Lists.{vars_of}
 use Rattle.ff_parts.specs.Factors.{FactorsFor}
 use Rattle.ff_report.specs.declared.parts.PartOutcome.{PartOutcome}
 use Rattle.ff_report.specs.Heads.{lines_of, head}
-use Rattle.ff_solve.specs.declared.texts.Last.{Last}
-use Rattle.ff_solve.specs.Lines.{last_of, parts_line, last_line, part_at}
+use Rattle.ff_report.specs.declared.lines.Last.{Last}
+use Rattle.ff_report.specs.Lines.{last_of, parts_line, last_line, part_at}
 use Rattle.ff_solve.specs.Outcomes.{AreOutcomes}
 use Rattle.ff_solve.specs.Reports.{IsBoardReport}
 use Rattle.ff_solve.specs.Written.{report_text}

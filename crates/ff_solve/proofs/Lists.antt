@@ -4,14 +4,12 @@ use Rattle.std.proofs.Math.ListN.{get_or-append}
 use Rattle.std.proofs.Math.Seq.{get_or-append_seam}
 use Rattle.std.proofs.lemmas.List.{length-map, get_or-map}
 use Rattle.std.proofs.lemmas.Option.{slice_get_within, slice_get-get_or, get_or_from_slice_get}
+use Rattle.ff_basics.proofs.Numbers.{last_or}
 use Rattle.ff_tables.specs.declared.orders.Order.{Order}
 use Rattle.ff_tables.specs.declared.terms.Constraint.{Constraint}
 use Rattle.ff_propagate.specs.declared.parts.Part.{Part}
 use Rattle.ff_propagate.specs.Parts.{AreParts}
 use Rattle.ff_parts.specs.Lists.{vars_of}
-
-below_or : (i n : ℕ) → i < n + 1 → (i < n) ⊎ (i ≡ n)
-below_or i n l = grind (arith, l)
 
 -- one item more
 pub each_more : {A : Type 0} (P : ℕ → A → Type 0) (xs ys : List A) (x : A) (n : ℕ) → ys ≡ xs ++ x ∷ [] → length xs ≡ n → ((k : ℕ) (y : A) → slice_get xs k ≡ Some y → P k y)
@@ -19,7 +17,7 @@ pub each_more : {A : Type 0} (P : ℕ → A → Type 0) (xs ys : List A) (x : A)
 each_more P xs ys x n e as_many old new k y there =
     let inside : k < length xs + 1 = subst (λ (m : ℕ). k < m) (ap length e ∙ length-append xs (x ∷ [])) (slice_get_within ys k y there) in
     let is : get_or (xs ++ x ∷ []) k y ≡ y = ap (λ l. get_or l k y) (sym e) ∙ get_or_from_slice_get ys k y y there in
-    elim (below_or k (length xs) inside) [
+    elim (last_or k (length xs) inside) [
       | inl l ↦ old k y (slice_get-get_or xs k y l ∙ ap Some (sym (get_or-append xs (x ∷ []) y k l) ∙ is))
       | inr s ↦ subst (λ (m : ℕ). P m y) (sym (s ∙ as_many)) (subst (λ z. P n z) (sym (get_or-append_seam xs x [] y) ∙ ap (λ m. get_or (xs ++ x ∷ []) m y) (sym s) ∙ is) new)
     ]

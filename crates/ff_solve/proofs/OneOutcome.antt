@@ -1,5 +1,6 @@
 -- The search of a part comes to one outcome within a budget.
 use Rattle.std.proofs.Common.{◌≡◌, ◌⊎◌, inl, inr, ℕ, suc, ◌+◌, ◌*◌, ◌<◌, ◌∙◌, List, [], ◌∷◌, length, length-append, slice_index, Option, Some, refl, ap, sym, subst, arith}
+use Rattle.ff_basics.proofs.Numbers.{less_or}
 use Rattle.ff_tables.specs.declared.orders.Order.{Order}
 use Rattle.ff_tables.specs.declared.orders.Order.TheVariants.{Below, Above}
 use Rattle.ff_tables.specs.declared.terms.Constraint.{Constraint}
@@ -8,12 +9,9 @@ use Rattle.ff_report.specs.declared.parts.PartOutcome.{PartOutcome}
 use Rattle.ff_report.specs.declared.parts.PartOutcome.TheVariants as outcome
 use Rattle.ff_solve.specs.Outcomes.{IsOutcome, EndsWithin, GoesBeyond}
 
-compare : (m n : ℕ) → (m < n) ⊎ ((m ≡ n) ⊎ (n < m))
-compare m n = grind arith
-
 -- the least undecided variable is one
 one_branching : (cons : List Constraint) (base : ℕ → Order → Type 0) (tried : List (ℕ × Order)) (vars : List ℕ) (v w : ℕ) → IsBranching cons base tried vars v → IsBranching cons base tried vars w → v ≡ w
-one_branching cons base tried vars v w a b = elim (compare a.place b.place) [
+one_branching cons base tried vars v w a b = elim (less_or a.place b.place) [
   | inl l ↦ absurd (a.undecided (subst (λ u. IsDecidedAt cons base tried u) a.is (b.earlier a.place l)))
   | inr r ↦ elim r [
     | inl e ↦ sym a.is ∙ ap (slice_index vars) e ∙ b.is

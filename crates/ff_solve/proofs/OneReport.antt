@@ -21,9 +21,9 @@ use Rattle.ff_report.specs.declared.parts.PartOutcome.{PartOutcome}
 use Rattle.ff_crossings.specs.CaseLaws.{AreAlike}
 use Rattle.ff_crossings.proofs.Alike.{by_places}
 use Rattle.ff_crossings.proofs.Truth.{at_place}
-use Rattle.ff_solve.specs.declared.texts.Last.{Last}
-use Rattle.ff_solve.specs.declared.texts.Last.TheVariants.{Impossible}
-use Rattle.ff_solve.specs.Lines.{last_of, part_at, parts_line, clash_line, last_line, clash_report, board_text}
+use Rattle.ff_report.specs.declared.lines.Last.{Last}
+use Rattle.ff_report.specs.declared.lines.Last.TheVariants.{Impossible}
+use Rattle.ff_report.specs.Lines.{last_of, part_at, parts_line, clash_line, last_line, clash_report, board_text}
 use Rattle.ff_solve.specs.Outcomes.{IsOutcome, AreOutcomes}
 use Rattle.ff_solve.specs.Reports.{IsReport, IsClashReport, IsBoardReport}
 use Rattle.ff_solve.specs.Laws.{ReportIsOne}

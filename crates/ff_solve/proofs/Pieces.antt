@@ -5,8 +5,8 @@ use Rattle.ff_propagate.specs.declared.parts.Part.{Part}
 use Rattle.ff_parts.specs.Lists.{vars_of}
 use Rattle.ff_report.specs.declared.parts.PartOutcome.{PartOutcome}
 use Rattle.ff_report.specs.Heads.{lines_of}
-use Rattle.ff_solve.specs.declared.texts.Last.{Last}
-use Rattle.ff_solve.specs.Lines.{part_at, last_line}
+use Rattle.ff_report.specs.declared.lines.Last.{Last}
+use Rattle.ff_report.specs.Lines.{part_at, last_line}
 use Rattle.ff_solve.specs.Written.{piece_at, report_text}
 
 module _ (head : List ℕ) (parts : List Part) (outcomes : List PartOutcome) (last : Last) where

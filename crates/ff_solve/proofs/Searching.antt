@@ -3,6 +3,7 @@ use Rattle.std.proofs.Common.{◌≡◌, ◌⊎◌, inl, inr, ℕ, suc, ◌+◌,
 use Rattle.std.proofs.Math.Nat.{mul-le-mul_left}
 use Rattle.std.proofs.Math.ListN.{drop_of_length-le}
 use Rattle.std.proofs.lemmas.List.{length-drop, append-nil, take_all}
+use Rattle.ff_basics.proofs.Numbers.{at_most_or}
 use Rattle.ff_tables.specs.declared.orders.Order.{Order}
 use Rattle.ff_tables.specs.declared.terms.Constraint.{Constraint}
 use Rattle.ff_propagate.specs.declared.facts.Fact.{Fact}
@@ -41,9 +42,6 @@ paid_more cost before steps budget l m = let e : cost * (before + steps) ≡ cos
 
 paid_less : (cost before steps budget : ℕ) → cost * before ≤ budget → budget - cost * before < cost * (steps + 1) → budget < cost * (before + steps + 1)
 paid_less cost before steps budget l m = let e : cost * (before + steps + 1) ≡ cost * before + cost * (steps + 1) = omega arith in omega (arith, l, m, e)
-
-at_least : (m n : ℕ) → (m ≤ n) ⊎ (n < m)
-at_least m n = grind arith
 
 no_cons : (values : List Order) (rest : List (List Order)) → (values ∷ rest) ≡ [] → ⊥
 no_cons values rest e = let n : suc (length rest) ≡ 0 = ap length e in omega (arith, n)
@@ -124,7 +122,7 @@ module _ (cons : List Constraint) (facts : List (Option Fact)) (part : List ℕ)
     b = called Spent r stands.tree is_ours
 
     more : t.visited < length (visits stands.tree)
-    more = elim (at_least (length (visits stands.tree)) t.visited) [
+    more = elim (at_most_or (length (visits stands.tree)) t.visited) [
       | inl l ↦ absurd (b.advances.goes_on (drop_of_length-le (visits stands.tree) l))
       | inr l ↦ l
     ]

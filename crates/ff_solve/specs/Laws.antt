@@ -12,7 +12,7 @@ use Rattle.ff_propagate.specs.Closure.{Clashes, Gives}
 use Rattle.ff_parts.specs.Factors.{Factors}
 use Rattle.ff_crossings.specs.CaseLaws.{AreAlike}
 use Rattle.ff_crossings.specs.Pins.{AreListedPins, with_pins}
-use Rattle.ff_solve.specs.declared.texts.Last.{Last}
+use Rattle.ff_report.specs.declared.lines.Last.{Last}
 use Rattle.ff_solve.specs.Choices.{IsKept, AreStackings}
 use Rattle.ff_solve.specs.Reports.{IsReport}
 

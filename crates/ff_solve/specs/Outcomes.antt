@@ -12,6 +12,7 @@ use Rattle.ff_report.specs.declared.parts.PartOutcome.TheVariants.{Solutions, No
 abbrev pub EndsWithin : List Constraint → (ℕ → Option Order) → ℕ → List ℕ → Type 0
 EndsWithin cons value budget part = (tree : Tree) × IsTree cons value part tree × IsFinished part tree budget
 
+-- the part's tree needs more turns than the budget
 abbrev pub GoesBeyond : List Constraint → (ℕ → Option Order) → ℕ → List ℕ → Type 0
 GoesBeyond cons value budget part = (tree : Tree) × IsTree cons value part tree × (budget < turns_of part tree)
 

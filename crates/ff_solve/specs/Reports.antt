@@ -11,9 +11,9 @@ use Rattle.ff_propagate.specs.Parts.{AreParts}
 use Rattle.ff_parts.specs.Lists.{vars_of}
 use Rattle.ff_parts.specs.Factors.{Factors}
 use Rattle.ff_report.specs.declared.parts.PartOutcome.{PartOutcome}
-use Rattle.ff_solve.specs.declared.texts.Last.{Last}
-use Rattle.ff_solve.specs.declared.texts.Last.TheVariants.{Impossible}
-use Rattle.ff_solve.specs.Lines.{last_of, board_text, clash_report}
+use Rattle.ff_report.specs.declared.lines.Last.{Last}
+use Rattle.ff_report.specs.declared.lines.Last.TheVariants.{Impossible}
+use Rattle.ff_report.specs.Lines.{last_of, board_text, clash_report}
 use Rattle.ff_solve.specs.Outcomes.{AreOutcomes}
 
 -- The closure of the starts clashes.
@@ -38,6 +38,7 @@ pub record IsBoardReport (faces : Faces) (folded : Folded) (case : Case) (budget
   pub ends : last ≡ last_of outcomes
   pub is : text ≡ board_text faces folded case facts (vars_of parts) outcomes
 
+-- the text is a report, of a clash or of a board
 abbrev pub IsReport : Faces → Folded → Case → ℕ → Last → List ℕ → Type 0
 IsReport faces folded case budget last text = IsClashReport faces folded case last text
     ⊎ IsBoardReport faces folded case budget last text

@@ -4,8 +4,8 @@ use Rattle.ff_propagate.specs.declared.parts.Part.{Part}
 use Rattle.ff_parts.specs.Lists.{vars_of}
 use Rattle.ff_report.specs.declared.parts.PartOutcome.{PartOutcome}
 use Rattle.ff_report.specs.Heads.{lines_of}
-use Rattle.ff_solve.specs.declared.texts.Last.{Last}
-use Rattle.ff_solve.specs.Lines.{part_at, last_line}
+use Rattle.ff_report.specs.declared.lines.Last.{Last}
+use Rattle.ff_report.specs.Lines.{part_at, last_line}
 
 -- as many outcomes as parts, which can be numbered
 pub record AreReported (parts : List Part) (outcomes : List PartOutcome) : Type 0 where

@@ -4,8 +4,6 @@
 mod laws;
 mod outcomes;
 mod reports;
-mod texts;
 
 pub use laws::{report_is_one, stackings_are_choices};
 pub use reports::{Report, report_of};
-pub use texts::{Last, clash_text, last_text, parts_text};

@@ -5,12 +5,11 @@ ghost use Rattle.ff_propagate.specs.Facts.{value_at};
 ghost use Rattle.ff_propagate.specs.Boards.{IsBoardOf};
 ghost use Rattle.ff_propagate.specs.Parts.{IsPart, AreTouching};
 ghost use Rattle.ff_propagate.specs.declared.parts.Part.{Part as PartSpec};
-ghost use Rattle.ff_solve.specs.Lines.{last_of, is_none, is_unfinished};
+ghost use Rattle.ff_report.specs.Lines.{last_of, is_none, is_unfinished};
 ghost use Rattle.ff_solve.specs.Outcomes.{IsOutcome, AreOutcomes, outcome_with};
 
-use crate::texts::Last;
 use ff_propagate::{Facts, Part};
-use ff_report::PartOutcome;
+use ff_report::{Last, PartOutcome};
 use ff_solver::{Advance, start};
 use ff_tables::{Items, NoMemory, Order};
 use ff_types::Case;

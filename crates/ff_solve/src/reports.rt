@@ -5,15 +5,14 @@ ghost use Rattle.ff_propagate.specs.Closing.{ClosesTo};
 ghost use Rattle.ff_propagate.specs.declared.facts.Closed.TheVariants.{Board};
 ghost use Rattle.ff_parts.specs.Lists.{vars_of};
 ghost use Rattle.ff_report.specs.Heads.{FitFolding};
-ghost use Rattle.ff_solve.specs.Lines.{clash_report, part_at};
+ghost use Rattle.ff_report.specs.Lines.{clash_report, part_at};
 ghost use Rattle.ff_solve.specs.Reports.{IsReport};
 ghost use Rattle.ff_solve.specs.Written.{AreReported, piece_at, report_text};
 
 use crate::outcomes::{ending, outcomes_of};
-use crate::texts::{Last, clash_text, last_text, parts_text};
 use ff_parts::parts;
 use ff_propagate::{Closed, Facts, Part, close};
-use ff_report::{PartOutcome, head_text, part_text};
+use ff_report::{Last, PartOutcome, clash_text, head_text, last_text, part_text, parts_text};
 use ff_tables::{Items, NoMemory, Text};
 use ff_types::{Case, Faces, Folded};
 use std::alloc::{AllocError, Global};

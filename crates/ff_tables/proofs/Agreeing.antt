@@ -1,5 +1,6 @@
 -- Rows that agree with what is known.
 use Rattle.std.proofs.Common.{◌≡◌, ℕ, zero, suc, ◌<◌, ◌⊎◌, ◌↔◌, ◌&&◌, Bool, true, false, List, map, length, sym, refl, ap, ◌∙◌, subst, inl, inr, arith, Option, Some, None}
+use Rattle.ff_basics.proofs.Tests.{and_true, true_and}
 use mathlib.Core.Logic.{dite}
 use native.Mathlib.Decide.{ℕ_discrete}
 use Rattle.ff_tables.specs.declared.orders.Order.{Order}
@@ -26,14 +27,6 @@ same_order Above Above h = refl
 pub order_same : (a : Order) → is_order a a ≡ true
 order_same Below = refl
 order_same Above = refl
-
-and_true : (a b : Bool) → (a && b) ≡ true → (a ≡ true) × (b ≡ true)
-and_true true b h = (refl, h)
-and_true false b h = cc
-
-true_and : (a b : Bool) → a ≡ true → b ≡ true → (a && b) ≡ true
-true_and true b g h = h
-true_and false b g h = cc
 
 pub and_one : (a : Bool) → a ≡ (a && true)
 and_one true = refl

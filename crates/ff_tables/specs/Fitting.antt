@@ -6,6 +6,7 @@ use Rattle.ff_tables.specs.declared.systems.System.{System}
 use Rattle.ff_tables.specs.Orders.{term_at}
 use Rattle.ff_tables.specs.Systems.{AreFit}
 
+-- the variables of all terms are below the number
 abbrev pub AreWithin : ℕ → List Term → Type 0
 AreWithin vars ts = (j : ℕ) → j < length ts → (term_at ts j).var < vars
 
@@ -13,6 +14,7 @@ AreWithin vars ts = (j : ℕ) → j < length ts → (term_at ts j).var < vars
 abbrev pub DifferFrom : List Term → ℕ → Type 0
 DifferFrom ts i = (j : ℕ) → j < i → (term_at ts i).var ≡ (term_at ts j).var → ⊥
 
+-- no variable stands twice
 abbrev pub AllDiffer : List Term → Type 0
 AllDiffer ts = (i : ℕ) → i < length ts → DifferFrom ts i
 

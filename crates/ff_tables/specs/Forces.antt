@@ -63,6 +63,7 @@ abbrev pub Settled : Kind → List Term → (ℕ → Option Order) → ℕ → T
 Settled kind ts f p = ((s : Order) × Knows f (term_at ts p).var s)
     ⊎ (Can kind ts (Knows f) p Below × Can kind ts (Knows f) p Above)
 
+-- so it is of each of the first n terms
 abbrev pub SettlesBelow : Kind → List Term → (ℕ → Option Order) → ℕ → Type 0
 SettlesBelow kind ts f n = (p : ℕ) → p < n → Settled kind ts f p
 

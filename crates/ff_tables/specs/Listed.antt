@@ -12,13 +12,16 @@ height (y ∷ ys) x = if y == x then 0 else suc (height ys x)
 abbrev pub order_in : List ℕ → ℕ → ℕ → Order
 order_in faces p q = if nat_lt (height faces q) (height faces p) then Above else Below
 
+-- the orders of the three pairs when the faces stand in this row
 abbrev pub three_values : List ℕ → List Order
 three_values faces = order_in faces 0 1 ∷ order_in faces 0 2 ∷ order_in faces 1 2 ∷ []
 
+-- the orders of the six pairs
 abbrev pub four_values : List ℕ → List Order
 four_values faces = order_in faces 0 1 ∷ order_in faces 0 2 ∷ order_in faces 0 3 ∷ order_in faces 1 2
     ∷ order_in faces 1 3 ∷ order_in faces 2 3 ∷ []
 
+-- the six rows of three faces
 abbrev pub orders_of_three : List (List ℕ)
 orders_of_three = (0 ∷ 1 ∷ 2 ∷ []) ∷ (0 ∷ 2 ∷ 1 ∷ []) ∷ (2 ∷ 0 ∷ 1 ∷ []) ∷ (1 ∷ 0 ∷ 2 ∷ [])
     ∷ (1 ∷ 2 ∷ 0 ∷ []) ∷ (2 ∷ 1 ∷ 0 ∷ []) ∷ []

@@ -10,6 +10,7 @@ turn false s = s
 turn true Below = Above
 turn true Above = Below
 
+-- the order turned, where it is known
 abbrev pub turned_option : Bool → Option Order → Option Order
 turned_option b None = None
 turned_option b (Some s) = Some (turn b s)

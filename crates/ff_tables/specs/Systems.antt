@@ -11,5 +11,6 @@ pub record IsFit (vars : ℕ) (con : Constraint) : Type 0 where
   pub differ : (i j : ℕ) → i < length con.terms → j < length con.terms
       → (term_at con.terms i).var ≡ (term_at con.terms j).var → i ≡ j
 
+-- each constraint has the terms of its kind
 abbrev pub AreFit : ℕ → List Constraint → Type 0
 AreFit vars cons = (c : ℕ) (con : Constraint) → slice_get cons c ≡ Some con → IsFit vars con

@@ -1,6 +1,7 @@
 -- Each family: what its list gives holds, and what holds is given.
 use Rattle.std.proofs.Common.{◌≡◌, ℕ, ◌<◌, ◌≤◌, ◌⊎◌, inl, inr, refl, sym, ◌∙◌, ap, subst, arith, ◌&&◌, IsTrue, Some}
 use Rattle.std.proofs.lemmas.Bool.{false≢true, cases_lt}
+use Rattle.ff_basics.proofs.Tests.{both_of, of_both}
 use Rattle.ff_types.specs.declared.cites.Cite.{Cite}
 use Rattle.ff_types.specs.declared.cites.Cite.TheVariants.{TacoTaco, TacoFace, TacoEdge, FlatFace, FlatEdge}
 use Rattle.ff_types.specs.Sheets.{Sheet}
@@ -10,7 +11,6 @@ use Rattle.ff_edges.specs.declared.edge_face.EdgeFace.{EdgeFace}
 use Rattle.ff_edges.specs.declared.edge_pair.EdgePair.{EdgePair}
 use Rattle.ff_edges.specs.SharedSegments.{constrain, edges_of_pair, IsEdgePair}
 use Rattle.ff_edges.specs.EdgesInside.{edge_and_face, IsEdgeFace}
-use Rattle.ff_edges.proofs.OnWays.{both_of, of_both}
 use Rattle.ff_tacos.specs.Tacos.{is_of_edges}
 use Rattle.ff_tacos.specs.Making.{taco_taco, taco_face, taco_edge, flat_face, flat_edge, mixed}
 use Rattle.ff_tacos.proofs.Flags.{if_some, some_if, if_either, first_if, second_if, folded_not_flat, flat_not_folded, side_of, of_side, flat_flat}

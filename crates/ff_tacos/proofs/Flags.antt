@@ -1,22 +1,17 @@
 -- What the marks of two edges say of each other, and what is so of a choice that gives something.
 use Rattle.std.proofs.Common.{◌≡◌, ℕ, ◌⊎◌, inl, inr, refl, sym, ◌∙◌, ap, subst, Bool, true, false, ◌&&◌, IsTrue, if◌then◌else◌, Option, Some, None, option_map}
 use Rattle.std.proofs.lemmas.Bool.{false≢true}
+use Rattle.std.proofs.lemmas.Option.{none-some, same_Some}
+use Rattle.ff_basics.proofs.Tests.{both_of}
 use Rattle.ff_types.specs.Foldings.{is_folded}
 use Rattle.ff_types.specs.Sheets.{Sheet, is_edge, mark_of}
 use Rattle.ff_types.specs.Cites.{is_flat, is_folded_edge, is_flat_edge, on_one_side}
 use Rattle.ff_edges.specs.SharedSegments.{beside_both, constrain}
 use Rattle.ff_edges.proofs.Segments.{folded_is_not_flat, constrain_by, both_folded}
-use Rattle.ff_edges.proofs.OnWays.{both_of}
-
-some_of : {A : Type 0} (x y : A) → Some x ≡ Some y → x ≡ y
-some_of x y e = cc
-
-none_is : {A : Type 0} (y : A) → None ≡ Some y → ⊥
-none_is y e = cc
 
 pub if_some : {A : Type 0} (b : Bool) (x y : A) → (if b then Some x else None) ≡ Some y → IsTrue b × (x ≡ y)
-if_some true x y e = (refl, some_of x y e)
-if_some false x y e = absurd (none_is y e)
+if_some true x y e = (refl, same_Some x y e)
+if_some false x y e = absurd (none-some y e)
 
 pub some_if : {A : Type 0} (b : Bool) (x : A) → IsTrue b → (if b then Some x else None) ≡ Some x
 some_if true x t = refl
@@ -26,7 +21,7 @@ some_if false x t = absurd (false≢true t)
 pub if_either : {A : Type 0} (b c : Bool) (x y z : A)
     → (if b then Some x else (if c then Some y else None)) ≡ Some z
     → (IsTrue b × (x ≡ z)) ⊎ (IsTrue c × (y ≡ z))
-if_either true c x y z e = inl (refl, some_of x z e)
+if_either true c x y z e = inl (refl, same_Some x z e)
 if_either false c x y z e = inr (if_some c y z e)
 
 pub first_if : {A : Type 0} (b c : Bool) (x y : A) → IsTrue b
@@ -41,8 +36,8 @@ second_if false c x y e t = some_if c y t
 
 pub mapped_some : {A B : Type 0} (f : A → B) (o : Option A) (y : B) → option_map f o ≡ Some y
     → (x : A) × (o ≡ Some x) × (f x ≡ y)
-mapped_some f (Some x) y e = (x, refl, some_of (f x) y e)
-mapped_some f None y e = absurd (none_is y e)
+mapped_some f (Some x) y e = (x, refl, same_Some (f x) y e)
+mapped_some f None y e = absurd (none-some y e)
 
 -- ---- marks
 

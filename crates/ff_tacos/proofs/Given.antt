@@ -1,6 +1,7 @@
 -- What the items of a list give: what is so of it, what is among it, and its order.
 use Rattle.std.proofs.Common.{◌≡◌, ℕ, ap, subst, IsTrue, List, ◌++◌, Option, Some, option_map, ◌<◌, ◌≤◌, arith}
 use Rattle.std.specs.List.{Contains}
+use Rattle.ff_basics.proofs.Lists.{filter_map_in, in_filter_map}
 use Rattle.ff_types.specs.declared.patterns.Pattern.{Pattern}
 use Rattle.ff_types.specs.declared.faces.Faces.{Faces}
 use Rattle.ff_types.specs.declared.faces.Folded.{Folded}
@@ -16,7 +17,7 @@ use Rattle.ff_tacos.proofs.Flags.{mapped_some}
 use Rattle.ff_tacos.proofs.Keys.{family, family_before}
 use Rattle.ff_tacos.proofs.Numbered.{is_constraint}
 use Rattle.ff_tacos.proofs.Families.{IsGood}
-use Rattle.ff_tacos.proofs.Rising.{Rising, in_filter_map, filter_map_in, rising_filter_map, rising_append, member_either}
+use Rattle.ff_tacos.proofs.Rising.{Rising, rising_filter_map, rising_append, member_either}
 
 abbrev pub ComesBefore : Listed → Listed → Type 0
 ComesBefore l o = IsTrue (list_before (key l.cite) (key o.cite))

@@ -5,7 +5,7 @@ use Rattle.std.proofs.lemmas.List.{append_assoc, length-append, take_more, take-
 use Rattle.std.proofs.lemmas.List.Elements.{filter_map-append}
 use Rattle.ff_types.specs.declared.refusals.No.{No}
 use Rattle.ff_types.specs.declared.refusals.No.TheVariants.{Refused, NoMemory}
-use Rattle.ff_tacos.specs.Making.{IsOver}
+use Rattle.ff_tacos.specs.Making.{WhyNoConstraints}
 
 module _ {X Y : Type 0} (h : X → Option Y) (xs : List X) (i : ℕ) (d : X) (o : Option Y) (l : i < length xs)
     (e : o ≡ h (get_or xs i d)) where
@@ -20,8 +20,8 @@ module _ {X Y : Type 0} (h : X → Option Y) (xs : List X) (i : ℕ) (d : X) (o 
         ∙ append_assoc old (filter_map h (take i xs)) (cons_option o []) ∙ ap (λ ys. old ++ ys) one_more
 
     -- the whole pass gives no fewer
-    pub over : (no : No) → IsOver (length list + length (cons_option o [])) no
-        → IsOver (length old + length (filter_map h xs)) no
+    pub over : (no : No) → WhyNoConstraints (length list + length (cons_option o [])) no
+        → WhyNoConstraints (length old + length (filter_map h xs)) no
     over NoMemory full = tt
     over (Refused r) full = (full.0, omega (arith, full.1, front, back, whole)) where
       front : length list + length (cons_option o []) ≡ length (list ++ cons_option o [])

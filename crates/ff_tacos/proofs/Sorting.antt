@@ -9,8 +9,9 @@ use Rattle.std.proofs.lemmas.Cmp.{nat_cmp_total, then_total, on_total}
 use Rattle.std.proofs.lemmas.List.Sorted.{sorted_far, ranks_by}
 use Rattle.std.proofs.lemmas.Map.Keys.{IsDistinct-IsPermutation, IsDistinct-from_apart, apart_from_distinct}
 use Rattle.std.proofs.lemmas.Option.{slice_get-get_or, slice_get_within, get_or_from_slice_get}
+use Rattle.ff_basics.proofs.Numbers.{same_number}
+use Rattle.ff_basics.proofs.Tests.{and_true}
 use Rattle.ff_types.specs.Pairs.{is_before}
-use Rattle.ff_types.proofs.Computing.{equal_itself}
 use Rattle.ff_tacos.specs.Making.{pair_cmp}
 use Rattle.ff_tacos.proofs.Rising.{Rising, rising_at, rising_from}
 
@@ -19,10 +20,6 @@ use Rattle.ff_tacos.proofs.Rising.{Rising, rising_at, rising_from}
 abbrev same_pair : ℕ × ℕ → ℕ × ℕ → Bool
 same_pair p q = p.0 == q.0 && p.1 == q.1
 
-both_true : (b c : Bool) → (b && c) ≡ true → (b ≡ true) × (c ≡ true)
-both_true true c e = (refl, e)
-both_true false c e = absurd (false≢true e)
-
 one_pair : (q p : ℕ × ℕ) → (q.0 ≡ p.0) → (q.1 ≡ p.1) → q ≡ p
 one_pair (a, b) (c, d) e f = ap (λ x. (x, b)) e ∙ ap (λ y. (c, y)) f
 
@@ -30,11 +27,11 @@ not_same : (p q : ℕ × ℕ) → p ≢ q → same_pair p q ≡ false
 not_same p q n = by (same_pair p q) refl where
   by : (b : Bool) → same_pair p q ≡ b → same_pair p q ≡ false
   by false e = e
-  by true e = let b = both_true (p.0 == q.0) (p.1 == q.1) e in
+  by true e = let b = and_true (p.0 == q.0) (p.1 == q.1) e in
       absurd (n (one_pair p q (eqb-true _ _ b.0) (eqb-true _ _ b.1)))
 
 same_itself : (p : ℕ × ℕ) → same_pair p p ≡ true
-same_itself p = rw (equal_itself p.0, equal_itself p.1) refl
+same_itself p = rw (same_number p.0, same_number p.1) refl
 
 flips : (p q : ℕ × ℕ) → same_pair p q ≡ same_pair q p
 flips p q = ap (λ b. b && p.1 == q.1) (turned p.0 q.0) ∙ ap (λ b. q.0 == p.0 && b) (turned p.1 q.1) where
@@ -73,7 +70,7 @@ before_by_first p q h = rw (lt-ltb p.0 q.0 h) refl
 before_by_second : (p q : ℕ × ℕ) → p.0 ≡ q.0 → p.1 < q.1 → IsTrue (is_before p q)
 before_by_second p q e h = by (nat_lt p.0 q.0) where
   same : IsTrue (p.0 == q.0 && nat_lt p.1 q.1)
-  same = rw (e, equal_itself q.0, lt-ltb p.1 q.1 h) refl
+  same = rw (e, same_number q.0, lt-ltb p.1 q.1 h) refl
 
   by : (b : Bool) → IsTrue (b || (p.0 == q.0 && nat_lt p.1 q.1))
   by true = refl

@@ -4,6 +4,8 @@ use Rattle.std.specs.List.{Contains, filter_map}
 use Rattle.std.proofs.lemmas.Bool.{false≢true, ltb-true}
 use Rattle.std.proofs.lemmas.Option.{slice_get-get_or}
 use Rattle.std.proofs.lemmas.List.Sorted.{IsPermutation-sym, Contains-permutation}
+use Rattle.ff_basics.proofs.Lists.{filter_map_in, in_filter_map, place_of_member}
+use Rattle.ff_basics.proofs.Tests.{both_of, of_first, of_second}
 use Rattle.ff_types.specs.declared.patterns.Pattern.{Pattern}
 use Rattle.ff_types.specs.declared.faces.Faces.{Faces}
 use Rattle.ff_types.specs.declared.faces.Folded.{Folded}
@@ -21,23 +23,14 @@ use Rattle.ff_edges.specs.declared.edge_face.EdgeFace.{EdgeFace}
 use Rattle.ff_edges.specs.declared.edge_pair.EdgePair.{EdgePair}
 use Rattle.ff_edges.specs.SharedSegments.{IsEdgePair, AreEdgePairs}
 use Rattle.ff_edges.specs.EdgesInside.{is_inner_edge, IsEdgeFace, AreEdgeFaces}
-use Rattle.ff_edges.proofs.OnWays.{both_of}
 use Rattle.ff_edges.proofs.PairLists.{second_edge}
 use Rattle.ff_tacos.specs.Tacos.{is_of_edges, AreNumbered, HasCite, AreTacos, AreTooMany}
-use Rattle.ff_tacos.specs.Making.{listed_of, given, taco_taco, taco_face, taco_edge, flat_face, flat_edge, mixed, AreMixed, all_given, IsOver, HavePairEdges, HaveEdges, HaveBoth}
+use Rattle.ff_tacos.specs.Making.{listed_of, given, taco_taco, taco_face, taco_edge, flat_face, flat_edge, mixed, AreMixed, all_given, WhyNoConstraints, HavePairEdges, HaveEdges, HaveBoth}
 use Rattle.ff_tacos.proofs.Flags.{folded_flat, flat_folded}
 use Rattle.ff_tacos.proofs.Families as families
 use Rattle.ff_tacos.proofs.Orders as orders
-use Rattle.ff_tacos.proofs.Rising.{at_place, place_of, member_left, member_right, in_filter_map, filter_map_in, rising_at}
+use Rattle.ff_tacos.proofs.Rising.{at_place, member_left, member_right, rising_at}
 use Rattle.ff_tacos.proofs.Given.{ComesBefore, AreUpTo, given_good, given_has, given_rises, one_family, one_more}
-
-first_of : (a b : Bool) → IsTrue a → IsTrue (a || b)
-first_of true b t = refl
-first_of false b t = absurd (false≢true t)
-
-second_of : (a b : Bool) → IsTrue b → IsTrue (a || b)
-second_of true b t = refl
-second_of false b t = t
 
 there : (g : Sheet) (e : ℕ) (b : Bool) → IsTrue (is_edge g e && b) → e < length g.edges
 there g e b t = ltb-true e (length g.edges) (both_of (is_edge g e) b t).0
@@ -90,10 +83,10 @@ module _ {pattern : Pattern} {faces : Faces} {folded : Folded} (h : IsFoldedPatt
   -- ---- members
 
   is_pair : (p : EdgePair) → Contains edge_pairs p → IsEdgePair g p
-  is_pair p m = let r = place_of edge_pairs p m in are_pairs.each r.0 p r.1
+  is_pair p m = let r = place_of_member edge_pairs p m in are_pairs.each r.0 p r.1
 
   is_face : (p : EdgeFace) → Contains edge_faces p → IsEdgeFace g p
-  is_face p m = let r = place_of edge_faces p m in are_faces.some.each r.0 p r.1
+  is_face p m = let r = place_of_member edge_faces p m in are_faces.some.each r.0 p r.1
 
   from_mixed : (q : ℕ × ℕ) → Contains list q → (p : EdgePair) × Contains edge_pairs p × (mixed g p ≡ Some q)
   from_mixed q m = in_filter_map (mixed g) edge_pairs q
@@ -134,7 +127,7 @@ module _ {pattern : Pattern} {faces : Faces} {folded : Folded} (h : IsFoldedPatt
   -- ---- all that hold
 
   found : (c : Cite) → Contains whole (listed_of g pairs c) → HasCite whole (key c)
-  found c m = let r = place_of whole (listed_of g pairs c) m in (r.0, listed_of g pairs c, r.1, refl)
+  found c m = let r = place_of_member whole (listed_of g pairs c) m in (r.0, listed_of g pairs c, r.1, refl)
 
   in_first : (l : Listed) → Contains first l → Contains whole l
   in_first l m = member_left (first ++ second ++ third ++ fourth) fifth l
@@ -174,14 +167,14 @@ module _ {pattern : Pattern} {faces : Faces} {folded : Folded} (h : IsFoldedPatt
       (given_has h pairs all (taco_taco g) edge_pairs r.1 (TacoTaco e k) (at_place edge_pairs r.0 r.1 r.2)
       (families.taco_taco_given g r.1 e k r.3 w)))
   complete (TacoFace e f at) t w =
-      let r = are_faces.all e f (first_of (is_folded_edge g e) (is_flat_edge g e) w.0) w.1 in
+      let r = are_faces.all e f (of_first (is_folded_edge g e) (is_flat_edge g e) w.0) w.1 in
       found (TacoFace e f r.1.at) (in_second _
       (given_has h pairs all (taco_face g) edge_faces r.1 (TacoFace e f r.1.at)
       (at_place edge_faces r.0 r.1 r.2) (families.taco_face_given g r.1 e f r.3 w.0)))
   complete (TacoEdge e k) t w = found (TacoEdge e k)
       (in_third _ (given_has h pairs all taco_edge list (e, k) (TacoEdge e k) (has_mixed e k w) refl))
   complete (FlatFace e f at) t w =
-      let r = are_faces.all e f (second_of (is_folded_edge g e) (is_flat_edge g e) w.0) w.1 in
+      let r = are_faces.all e f (of_second (is_folded_edge g e) (is_flat_edge g e) w.0) w.1 in
       found (FlatFace e f r.1.at) (in_fourth _
       (given_has h pairs all (flat_face g) edge_faces r.1 (FlatFace e f r.1.at)
       (at_place edge_faces r.0 r.1 r.2) (families.flat_face_given g r.1 e f r.3 w.0)))
@@ -206,6 +199,6 @@ module _ {pattern : Pattern} {faces : Faces} {folded : Folded} (h : IsFoldedPatt
     sorted = rising_at ComesBefore whole up_to.rises;
   }
 
-  pub too_many : (n : ℕ) (no : No) → IsOver (n + length whole) no → AreTooMany g pairs n no
+  pub too_many : (n : ℕ) (no : No) → WhyNoConstraints (n + length whole) no → AreTooMany g pairs n no
   too_many n NoMemory full = tt
   too_many n (Refused r) full = (full.0, (whole, are_tacos, full.1))

@@ -33,6 +33,7 @@ pair_cmp p q = ordering_then (nat_cmp p.0 q.0) (nat_cmp p.1 q.1)
 abbrev pub term_of : List (ℕ × ℕ) → ℕ × ℕ → Term
 term_of pairs p = record { var = face_or (number_of pairs p.0 p.1); flipped = nat_lt p.1 p.0 }
 
+-- the constraint of a cite beside it
 abbrev pub listed_of : Sheet → List (ℕ × ℕ) → Cite → Listed
 listed_of g pairs c = record {
   constraint = record { kind = kind_of c; terms = map (term_of pairs) (terms_of g c) };
@@ -47,6 +48,7 @@ are_all_left g p q faces = list_all (λ f. are_left g.images p q (ring_at g.ring
 abbrev pub taco_taco : Sheet → EdgePair → Option Cite
 taco_taco g p = if is_folded_edge g p.e && is_folded_edge g p.e2 then Some (TacoTaco p.e p.e2) else None
 
+-- the cite of a folded edge with a face inside
 abbrev pub taco_face : Sheet → EdgeFace → Option Cite
 taco_face g c = if is_folded_edge g c.e then Some (TacoFace c.e c.face c.at) else None
 
@@ -55,12 +57,15 @@ abbrev pub mixed : Sheet → EdgePair → Option (ℕ × ℕ)
 mixed g p = if is_folded_edge g p.e && is_flat_edge g p.e2 then Some (p.e, p.e2)
     else (if is_flat_edge g p.e && is_folded_edge g p.e2 then Some (p.e2, p.e) else None)
 
+-- the cite of a folded edge along a flat one
 abbrev pub taco_edge : ℕ × ℕ → Option Cite
 taco_edge p = Some (TacoEdge p.0 p.1)
 
+-- the cite of a flat edge with a face inside
 abbrev pub flat_face : Sheet → EdgeFace → Option Cite
 flat_face g c = if is_flat_edge g c.e then Some (FlatFace c.e c.face c.at) else None
 
+-- the cite of two flat edges along each other
 abbrev pub flat_edge : Sheet → EdgePair → Option Cite
 flat_edge g p = if is_flat_edge g p.e && is_flat_edge g p.e2 then Some (FlatEdge p.e p.e2) else None
 
@@ -82,16 +87,18 @@ all_given g pairs edge_pairs edge_faces list = given g pairs (taco_taco g) edge_
     ++ given g pairs (flat_edge g) edge_pairs
 
 -- why so many can't be listed
-abbrev pub IsOver : ℕ → No → Type 0
-IsOver n NoMemory = Unit {0}
-IsOver n (Refused r) = (r ≡ TooMany Constraints MOST_CONSTRAINTS) × (MOST_CONSTRAINTS < n)
+abbrev pub WhyNoConstraints : ℕ → No → Type 0
+WhyNoConstraints n NoMemory = Unit {0}
+WhyNoConstraints n (Refused r) = (r ≡ TooMany Constraints MOST_CONSTRAINTS) × (MOST_CONSTRAINTS < n)
 
 -- the edges have numbers below n
 abbrev pub HavePairEdges : ℕ → List EdgePair → Type 0
 HavePairEdges n list = All (λ p. (p.e < n) × (p.e2 < n)) list
 
+-- the numbers of all entries are edges
 abbrev pub HaveEdges : ℕ → List EdgeFace → Type 0
 HaveEdges n list = All (λ c. c.e < n) list
 
+-- both numbers of all entries are edges
 abbrev pub HaveBoth : ℕ → List (ℕ × ℕ) → Type 0
 HaveBoth n list = All (λ p. (p.0 < n) × (p.1 < n)) list

@@ -10,7 +10,7 @@ ghost use Rattle.ff_types.specs.Terms.{matching as matching_face, opposed as opp
 ghost use Rattle.ff_edges.specs.Ways.{are_left};
 ghost use Rattle.ff_tacos.specs.Making.{are_all_left};
 
-use crate::sides::lies_left;
+use ff_edges::{ends, face_left};
 use ff_types::{Faces, Folded, Mark, Pattern};
 use ff_whole::Pt;
 
@@ -76,32 +76,6 @@ pub fn beside(pattern: &Pattern, faces: &Faces, folded: &Folded, e: u32) -> (u32
     } else {
         (right, left)
     }
-}
-
-// The images of the ends of an edge.
-fn ends(pattern: &Pattern, faces: &Faces, folded: &Folded, e: u32) -> (Pt, Pt)
-    requires folded { IsFoldedPattern pattern.now faces.now folded.now }
-    requires edge { e < length pattern.now.edges }
-    ensures tail { result.0 ≡ tail (sheet_of pattern.now faces.now folded.now) e }
-    ensures head { result.1 ≡ head (sheet_of pattern.now faces.now folded.now) e }
-    ensures first_near { IsNear result.0 }
-    ensures second_near { IsNear result.1 }
-{
-    let edge = pattern.edges.as_slice()[e as usize];
-    let points = folded.points.as_slice();
-    (points[edge.a as usize], points[edge.b as usize])
-}
-
-// Whether the face lies left of the way from `p` to `q`.
-fn face_left(pattern: &Pattern, faces: &Faces, folded: &Folded, f: u32, p: Pt, q: Pt) -> bool
-    requires folded { IsFoldedPattern pattern.now faces.now folded.now }
-    requires face { f < length faces.now.rings }
-    requires p_near { IsNear p }
-    requires q_near { IsNear q }
-    ensures { result ≡ are_left folded.now.points p q (ring_at faces.now.rings f) }
-{
-    let ring = faces.rings.as_slice()[f as usize].as_slice();
-    lies_left(folded.points.as_slice(), ring, p, q)
 }
 
 // Whether both faces do.

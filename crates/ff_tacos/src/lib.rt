@@ -7,6 +7,5 @@ mod constraints;
 mod listing;
 mod mixed;
 mod passes;
-mod sides;
 
 pub use listing::tacos;

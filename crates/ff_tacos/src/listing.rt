@@ -6,7 +6,7 @@ ghost use Rattle.ff_edges.specs.SharedSegments.{AreEdgePairs};
 ghost use Rattle.ff_edges.specs.EdgesInside.{AreEdgeFaces};
 ghost use Rattle.ff_types.specs.declared.limits.TheConstants.{MOST_CONSTRAINTS as most_constraints};
 ghost use Rattle.ff_tacos.specs.Tacos.{AreNumbered, AddsTacos, AreTooMany};
-ghost use Rattle.ff_tacos.specs.Making.{all_given, IsOver, HavePairEdges, HaveEdges, HaveBoth};
+ghost use Rattle.ff_tacos.specs.Making.{all_given, WhyNoConstraints, HavePairEdges, HaveEdges, HaveBoth};
 
 use crate::mixed::mixed_pairs;
 use crate::passes::{
@@ -37,7 +37,7 @@ fn append_families(
         ++ all_given (sheet_of pattern.now faces.now folded.now) pairs.now edge_pairs.now edge_faces.now
         mixed.now) }
     ensures few { OnOk result (length list.new ≤ most_constraints) }
-    ensures refused { IfErr result (IsOver (length list.old
+    ensures refused { IfErr result (WhyNoConstraints (length list.old
         + length (all_given (sheet_of pattern.now faces.now folded.now) pairs.now edge_pairs.now
         edge_faces.now mixed.now))) }
 {

@@ -3,7 +3,7 @@ ghost use Rattle.std.specs.Prelude.{◌≡◌, ◌++◌, ◌+◌, ◌<◌, ◌�
 ghost use Rattle.ff_types.specs.FoldedPatterns.{IsFoldedPattern};
 ghost use Rattle.ff_types.specs.Sheets.{sheet_of};
 ghost use Rattle.ff_types.specs.declared.limits.TheConstants.{MOST_CONSTRAINTS as most_constraints};
-ghost use Rattle.ff_tacos.specs.Making.{given, IsOver, HavePairEdges, HaveEdges, HaveBoth, taco_taco as gives_taco_taco, taco_face as gives_taco_face, taco_edge as gives_taco_edge, flat_face as gives_flat_face, flat_edge as gives_flat_edge};
+ghost use Rattle.ff_tacos.specs.Making.{given, WhyNoConstraints, HavePairEdges, HaveEdges, HaveBoth, taco_taco as gives_taco_taco, taco_face as gives_taco_face, taco_edge as gives_taco_edge, flat_face as gives_flat_face, flat_edge as gives_flat_edge};
 
 use crate::append::append;
 use crate::constraints::{flat_edge, flat_face, taco_edge, taco_face, taco_taco};
@@ -26,7 +26,7 @@ pub fn append_taco_tacos(
         ++ given (sheet_of pattern.now faces.now folded.now) pairs.now
         (gives_taco_taco (sheet_of pattern.now faces.now folded.now)) edge_pairs.now) }
     ensures few { OnOk result (length list.new ≤ most_constraints) }
-    ensures refused { IfErr result (IsOver (length list.old
+    ensures refused { IfErr result (WhyNoConstraints (length list.old
         + length (given (sheet_of pattern.now faces.now folded.now) pairs.now
         (gives_taco_taco (sheet_of pattern.now faces.now folded.now)) edge_pairs.now))) }
 {
@@ -53,7 +53,7 @@ pub fn append_taco_faces(
         ++ given (sheet_of pattern.now faces.now folded.now) pairs.now
         (gives_taco_face (sheet_of pattern.now faces.now folded.now)) edge_faces.now) }
     ensures few { OnOk result (length list.new ≤ most_constraints) }
-    ensures refused { IfErr result (IsOver (length list.old
+    ensures refused { IfErr result (WhyNoConstraints (length list.old
         + length (given (sheet_of pattern.now faces.now folded.now) pairs.now
         (gives_taco_face (sheet_of pattern.now faces.now folded.now)) edge_faces.now))) }
 {
@@ -79,7 +79,7 @@ pub fn append_taco_edges(
     ensures appended { OnOk result (list.new ≡ list.old
         ++ given (sheet_of pattern.now faces.now folded.now) pairs.now gives_taco_edge mixed.now) }
     ensures few { OnOk result (length list.new ≤ most_constraints) }
-    ensures refused { IfErr result (IsOver (length list.old
+    ensures refused { IfErr result (WhyNoConstraints (length list.old
         + length (given (sheet_of pattern.now faces.now folded.now) pairs.now gives_taco_edge mixed.now))) }
 {
     for i in 0..mixed.len() {
@@ -105,7 +105,7 @@ pub fn append_flat_faces(
         ++ given (sheet_of pattern.now faces.now folded.now) pairs.now
         (gives_flat_face (sheet_of pattern.now faces.now folded.now)) edge_faces.now) }
     ensures few { OnOk result (length list.new ≤ most_constraints) }
-    ensures refused { IfErr result (IsOver (length list.old
+    ensures refused { IfErr result (WhyNoConstraints (length list.old
         + length (given (sheet_of pattern.now faces.now folded.now) pairs.now
         (gives_flat_face (sheet_of pattern.now faces.now folded.now)) edge_faces.now))) }
 {
@@ -132,7 +132,7 @@ pub fn append_flat_edges(
         ++ given (sheet_of pattern.now faces.now folded.now) pairs.now
         (gives_flat_edge (sheet_of pattern.now faces.now folded.now)) edge_pairs.now) }
     ensures few { OnOk result (length list.new ≤ most_constraints) }
-    ensures refused { IfErr result (IsOver (length list.old
+    ensures refused { IfErr result (WhyNoConstraints (length list.old
         + length (given (sheet_of pattern.now faces.now folded.now) pairs.now
         (gives_flat_edge (sheet_of pattern.now faces.now folded.now)) edge_pairs.now))) }
 {

@@ -13,8 +13,8 @@ use Rattle.ff_problem.specs.Problems.{RefusesProblem}
 use Rattle.ff_problem.specs.Laws.{AreSameProblems}
 use Rattle.ff_problem.proofs.OneProblem.{problem_is_one, problems_are_not_refused, problem_refusal_is_one}
 use Rattle.ff_report.specs.Refusals.{refusal_line}
-use Rattle.ff_solve.specs.declared.texts.Last.{Last}
-use Rattle.ff_solve.specs.declared.texts.Last.TheVariants as last
+use Rattle.ff_report.specs.declared.lines.Last.{Last}
+use Rattle.ff_report.specs.declared.lines.Last.TheVariants as last
 use Rattle.ff_solve.specs.Reports.{IsReport}
 use Rattle.ff_solve.proofs.OneReport.{one_report}
 use Rattle.ff_top.specs.Texts.{usage_line}

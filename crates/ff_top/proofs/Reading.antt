@@ -11,7 +11,7 @@ use Rattle.ff_read.specs.Read.{IsReadAs, IsNoPattern}
 use Rattle.ff_read.proofs.Lists.{as_many}
 use Rattle.ff_problem.specs.declared.problems.Problem.{Problem}
 use Rattle.ff_problem.specs.Problems.{IsProblem, WhyNoProblem}
-use Rattle.ff_top.specs.Solving.{IsReason, ReadsProblem}
+use Rattle.ff_top.specs.Solving.{WhyNoReport, ReadsProblem}
 
 -- a pattern that was read has three vertices at least
 three_of : {A : Type 0} (o : Option (List A)) (ds : List A) → option_and_then (λ xs. if nat_le 3 (length xs) then Some xs else None) o ≡ Some ds → 3 ≤ length ds
@@ -35,7 +35,7 @@ pub pattern_some : (bytes : List ℕ) (r : Result Pattern No) → MatchResult r 
 pattern_some bytes (Ok p) h = has_vertices bytes p h
 pattern_some bytes (Err n) h = tt
 
-pub problem_refused : (bytes : List ℕ) (p : Pattern) → length bytes ≤ MOST_BYTES → IsReadAs bytes p → (n : No) → WhyNoProblem p n → IsReason bytes n
+pub problem_refused : (bytes : List ℕ) (p : Pattern) → length bytes ≤ MOST_BYTES → IsReadAs bytes p → (n : No) → WhyNoProblem p n → WhyNoReport bytes n
 problem_refused bytes p few read (no.Refused r) h = inr (few, inr (record { pattern = p; read = read; refused = h }))
 problem_refused bytes p few read no.NoMemory h = tt
 
@@ -45,6 +45,6 @@ problem_made bytes p few read (Ok x) h = record { within = few; pattern = p; rea
 problem_made bytes p few read (Err n) h = tt
 
 pub problem_not_made : (bytes : List ℕ) (p : Pattern) → length bytes ≤ MOST_BYTES → IsReadAs bytes p → (r : Result Problem No) → MatchResult r (λ x. IsProblem p x.faces x.folded x.case) (WhyNoProblem p)
-    → IfErr r (IsReason bytes)
+    → IfErr r (WhyNoReport bytes)
 problem_not_made bytes p few read (Ok x) h = tt
 problem_not_made bytes p few read (Err n) h = problem_refused bytes p few read n h

@@ -2,6 +2,7 @@
 use Rattle.std.proofs.Common.{◌⊎◌, inl, inr, ℕ, suc, ◌<◌, ◌≤◌, ◌^◌, List, [], ◌∷◌, length, Option, Some, None, IsTrue, Result, Ok, Err, IfOk, ap, sym, subst, arith}
 use Rattle.std.specs.List.{filter_map, cons_option}
 use Rattle.std.proofs.lemmas.List.FromFn.{length-range_with_len}
+use Rattle.ff_basics.proofs.Numbers.{at_most_or}
 use Rattle.ff_types.specs.declared.faces.Faces.{Faces}
 use Rattle.ff_types.specs.declared.faces.Folded.{Folded}
 use Rattle.ff_types.specs.declared.cases.Case.{Case}
@@ -9,7 +10,7 @@ use Rattle.ff_types.specs.Faces.{list_before}
 use Rattle.ff_types.specs.Sheets.{sheet_of, edges_of}
 use Rattle.ff_types.specs.Cases.{key, start_of}
 use Rattle.ff_types.proofs.FoldedEdges.{ring_below}
-use Rattle.ff_solve.specs.declared.texts.Last.{Last}
+use Rattle.ff_report.specs.declared.lines.Last.{Last}
 use Rattle.ff_tables.specs.declared.memory.NoMemory.{NoMemory}
 use Rattle.ff_solve.specs.declared.reports.Report.{Report}
 use Rattle.ff_solve.specs.Reports.{IsReport}
@@ -65,11 +66,8 @@ few_starts bytes faces folded case reads =
     let few = reads.pattern.valid.few_edges in
     omega (arith, l, e, n, few)
 
-few_or_many : (m n : ℕ) → (m ≤ n) ⊎ (n < m)
-few_or_many m n = grind arith
-
 pub few_constraints : (bytes : List ℕ) (faces : Faces) (folded : Folded) (case : Case) → ReadsProblem bytes faces folded case → length case.system.constraints < 2 ^ 32
-few_constraints bytes faces folded case reads = elim (few_or_many (length case.system.constraints) MOST_CONSTRAINTS) [
+few_constraints bytes faces folded case reads = elim (at_most_or (length case.system.constraints) MOST_CONSTRAINTS) [
   | inl l ↦ omega (arith, l)
   | inr l ↦ absurd (reads.problem.within.constraints (
     case.cites,

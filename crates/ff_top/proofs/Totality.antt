@@ -1,5 +1,6 @@
 -- No words and no input are without an answer.
 use Rattle.std.proofs.Common.{◌<◌, ◌≤◌, ◌⊎◌, inl, inr, ℕ, List, length, Option, Some, None, refl, arith}
+use Rattle.std.proofs.lemmas.Bool.{cases_lt}
 use Rattle.ff_types.specs.declared.limits.TheConstants.{MOST_BYTES}
 use Rattle.ff_types.specs.declared.patterns.Pattern.{Pattern}
 use Rattle.ff_types.specs.declared.faces.Faces.{Faces}
@@ -17,8 +18,8 @@ use Rattle.ff_read.proofs.OneReading.{reading_is_one}
 use Rattle.ff_report.specs.Refusals.{refusal_line}
 use Rattle.ff_top.specs.Texts.{usage_line}
 use Rattle.ff_top.specs.Asking.{budget_in}
-use Rattle.ff_solve.specs.declared.texts.Last.{Last}
-use Rattle.ff_solve.specs.declared.texts.Last.TheVariants as last
+use Rattle.ff_report.specs.declared.lines.Last.{Last}
+use Rattle.ff_report.specs.declared.lines.Last.TheVariants as last
 use Rattle.ff_answers.proofs.Coming.{folded_patterns_come}
 use Rattle.ff_answers.proofs.Reports.{cases_have_reports}
 use Rattle.ff_top.specs.Solving.{IsRefused, IsSolved}
@@ -26,9 +27,6 @@ use Rattle.ff_top.specs.Answer.{AnswersTo, SomeAnswer}
 use Rattle.ff_top.specs.declared.status.Status.{Status}
 use Rattle.ff_top.specs.declared.status.Status.TheVariants.{Done, Impossible, Unfinished, Refused, Usage}
 use Rattle.ff_top.proofs.Reported.{solved}
-
-longer_or : (m n : ℕ) → (m < n) ⊎ (n ≤ m)
-longer_or m n = grind arith
 
 module _ (input : List ℕ) (within : length input ≤ MOST_BYTES) (refused : (r : Refusal) → IsRefused input r → ⊥)
     (folds : (p : Pattern) (faces : Faces) (folded : Folded) → IsReadAs input p → IsFoldedPattern p faces folded → ⊥) where
@@ -67,7 +65,7 @@ module _ (input : List ℕ) (budget : ℕ) (none : (s : Status) (text : List ℕ
 
 by_budget : (o : Option ℕ) (input : List ℕ) → ((s : Status) (text : List ℕ) → AnswersTo o input s text → ⊥) → ⊥
 by_budget None input none = none Usage usage_line refl
-by_budget (Some budget) input none = of_length input budget none (longer_or MOST_BYTES (length input))
+by_budget (Some budget) input none = of_length input budget none (cases_lt MOST_BYTES (length input))
 
 pub some_answer : SomeAnswer
 some_answer words input none = by_budget (budget_in words) input none

@@ -7,10 +7,12 @@ abbrev pub lengthen : ℕ → List (List ℕ) → List (List ℕ)
 lengthen c [] = (c ∷ []) ∷ []
 lengthen c (line ∷ lines) = (c ∷ line) ∷ lines
 
+-- the lines of a text, without their ends
 abbrev pub lines_in : List ℕ → List (List ℕ)
 lines_in [] = []
 lines_in (c ∷ text) = if c == 10 then [] ∷ lines_in text else lengthen c (lines_in text)
 
+-- the line begins with this front
 abbrev pub begins : List ℕ → List ℕ → Bool
 begins [] line = true
 begins (c ∷ front) [] = false
@@ -30,6 +32,7 @@ abbrev pub after_log : List Piece → List Piece
 after_log (Log ∷ pieces) = Log ∷ pieces
 after_log pieces = Log ∷ pieces
 
+-- the lines of a text, where those of one log make one piece
 abbrev pub pieces_of : List (List ℕ) → List Piece
 pieces_of [] = []
 pieces_of (line ∷ lines) = if is_log line then after_log (pieces_of lines) else Line line ∷ pieces_of lines

@@ -4,6 +4,7 @@ use Rattle.ff_words.specs.declared.jobs.Job.{Job}
 use Rattle.ff_words.specs.declared.jobs.Job.TheVariants.{Solve, Check, Bench, Make}
 use Rattle.ff_words.specs.Form.{job_named}
 
+-- the budget of a job of solving
 abbrev pub solve_budget : Job → Option ℕ
 solve_budget (Solve budget) = Some budget
 solve_budget Check = None

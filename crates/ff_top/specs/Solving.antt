@@ -15,8 +15,8 @@ use Rattle.ff_problem.specs.Problems.{IsProblem, RefusesProblem}
 use Rattle.ff_propagate.specs.Facts.{value_at}
 use Rattle.ff_parts.specs.Lists.{vars_of}
 use Rattle.ff_report.specs.Refusals.{refusal_line}
-use Rattle.ff_solve.specs.declared.texts.Last.{Last}
-use Rattle.ff_solve.specs.declared.texts.Last.TheVariants as last
+use Rattle.ff_report.specs.declared.lines.Last.{Last}
+use Rattle.ff_report.specs.declared.lines.Last.TheVariants as last
 use Rattle.ff_solve.specs.Choices.{IsKept, AreStackings}
 use Rattle.ff_solve.specs.Reports.{IsReport, IsClashReport, IsBoardReport}
 use Rattle.ff_top.specs.declared.status.Status.{Status}
@@ -41,9 +41,9 @@ IsRefused bytes r = ((MOST_BYTES < length bytes) × (r ≡ TooLong))
     ⊎ ((length bytes ≤ MOST_BYTES) × (RefusesBytes bytes r ⊎ ReadsRefused bytes r))
 
 -- why nothing was read
-abbrev pub IsReason : List ℕ → No → Type 0
-IsReason bytes (no.Refused r) = IsRefused bytes r
-IsReason bytes no.NoMemory = Unit {0}
+abbrev pub WhyNoReport : List ℕ → No → Type 0
+WhyNoReport bytes (no.Refused r) = IsRefused bytes r
+WhyNoReport bytes no.NoMemory = Unit {0}
 
 -- the report of what the bytes come to
 pub record IsSolved (bytes : List ℕ) (budget : ℕ) (l : Last) (text : List ℕ) : Type 0 where
@@ -59,6 +59,7 @@ pub record IsSolved (bytes : List ℕ) (budget : ℕ) (l : Last) (text : List �
   pub choices : (b : IsBoardReport faces folded case budget l text)
       → AreStackings (sheet_of reads.pattern faces folded) [] case (value_at b.facts) (vars_of b.parts)
 
+-- the status of a report by how it ends
 abbrev pub status_of : Last → Status
 status_of last.Done = Done
 status_of last.Impossible = Impossible

@@ -4,6 +4,7 @@ use Rattle.std.specs.Prelude.{ℕ}
 use Rattle.ff_top.specs.declared.status.Status.{Status}
 use Rattle.ff_top.specs.declared.status.Status.TheVariants.{Done, Impossible, Refused, Unfinished, ReadFault, WriteFault, NoMemory, Usage}
 
+-- the exit status of the process
 abbrev pub number_of : Status → ℕ
 number_of Done = 0
 number_of Impossible = 1

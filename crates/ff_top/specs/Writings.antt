@@ -6,10 +6,12 @@ use Rattle.ff_solve.specs.Written.{piece_at}
 use Rattle.ff_top.specs.declared.writing.Writing.{Writing}
 use Rattle.ff_top.specs.declared.writing.Writing.TheVariants.{Line, Report}
 
+-- how many pieces are written
 abbrev pub piece_count : Writing → ℕ
 piece_count (Line text) = 1
 piece_count (Report r) = suc (suc (length r.parts))
 
+-- the piece with this number
 abbrev pub piece_of : Writing → ℕ → List ℕ
 piece_of (Line text) n = text
 piece_of (Report r) n = piece_at r.head r.parts r.outcomes r.last n

@@ -4,15 +4,14 @@ ghost use Rattle.ff_types.specs.declared.limits.TheConstants.{MOST_BYTES as most
 ghost use Rattle.ff_read.specs.Read.{IsReadAs};
 ghost use Rattle.ff_report.specs.Refusals.{refusal_line};
 ghost use Rattle.ff_solve.specs.Written.{report_text};
-ghost use Rattle.ff_top.specs.Solving.{IsReason, ReadsProblem, IsSolved, AnswersSolve, status_of};
+ghost use Rattle.ff_top.specs.Solving.{WhyNoReport, ReadsProblem, IsSolved, AnswersSolve, status_of};
 ghost use Rattle.ff_top.specs.Writings.{text_of};
 
 use crate::status::Status;
-use crate::texts::Last;
 use crate::writing::Writing;
 use ff_problem::{Problem, problem};
 use ff_read::read_fold;
-use ff_report::refusal_text;
+use ff_report::{Last, refusal_text};
 use ff_solve::{Report, report_of};
 use ff_tables::NoMemory;
 use ff_types::{No, Pattern, Refusal};
@@ -50,7 +49,7 @@ fn read_pattern(alloc: Global, bytes: &[u8]) -> Result<Pattern, No>
     requires { length bytes.now ≤ most_bytes }
     ensures made { IfOk result (IsReadAs bytes.now) }
     ensures some { IfOk result (λ p. 1 ≤ length p.points) }
-    ensures refused { IfErr result (IsReason bytes.now) }
+    ensures refused { IfErr result (WhyNoReport bytes.now) }
 {
     read_fold(alloc, bytes)
 }
@@ -61,7 +60,7 @@ fn read_as_problem(alloc: Global, bytes: &[u8], pattern: &Pattern) -> Result<Pro
     requires read { IsReadAs bytes.now pattern.now }
     requires some { 1 ≤ length pattern.now.points }
     ensures made { IfOk result (λ p. ReadsProblem bytes.now p.faces p.folded p.case) }
-    ensures refused { IfErr result (IsReason bytes.now) }
+    ensures refused { IfErr result (WhyNoReport bytes.now) }
 {
     let _ = bytes;
     problem(alloc, pattern)
@@ -71,7 +70,7 @@ fn read_as_problem(alloc: Global, bytes: &[u8], pattern: &Pattern) -> Result<Pro
 fn read_problem(alloc: Global, bytes: &[u8]) -> Result<Problem, No>
     requires { length bytes.now ≤ most_bytes }
     ensures made { IfOk result (λ p. ReadsProblem bytes.now p.faces p.folded p.case) }
-    ensures refused { IfErr result (IsReason bytes.now) }
+    ensures refused { IfErr result (WhyNoReport bytes.now) }
 {
     let pattern = read_pattern(alloc, bytes)?;
     read_as_problem(alloc, bytes, &pattern)

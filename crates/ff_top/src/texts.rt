@@ -1,8 +1,7 @@
-//! The texts that the program writes, besides those of `ff_report`.
+//! The line for words that the program does not know.
 ghost use Rattle.std.specs.Prelude.{◌≡◌, IfOk};
 ghost use Rattle.ff_top.specs.Texts.{usage_line};
 
-pub use ff_solve::{Last, clash_text, last_text, parts_text};
 use ff_tables::{NoMemory, Text};
 use std::alloc::Global;
 

@@ -10,6 +10,9 @@ use Rattle.ff_types.proofs.SortedPairs.{number_there}
 use Rattle.std.proofs.lemmas.Bool.{ltb-true, false≢true}
 use Rattle.std.proofs.lemmas.List.{length_push}
 use Rattle.std.proofs.lemmas.Option.{slice_get_within, slice_get-get_or, get_or_from_slice_get}
+use Rattle.ff_basics.proofs.Memberships.{by_member, filter_in, in_filter, no_member, range_in}
+use Rattle.ff_basics.proofs.Tests.{both_of}
+use Rattle.ff_basics.proofs.Lists.{all_at, member_some}
 use Rattle.ff_whole.specs.declared.places.Place.{Place}
 use Rattle.ff_types.specs.declared.cites.Cite.{Cite}
 use Rattle.ff_types.specs.declared.cites.Cite.TheVariants.{Transitivity}
@@ -21,23 +24,17 @@ use Rattle.ff_types.specs.Inside.{is_inside, over, HaveCommon}
 use Rattle.ff_types.specs.Witnesses.{IsWitness, witness_face}
 use Rattle.ff_types.specs.Cites.{Holds, Witnessed, HasSmallPlaces}
 use Rattle.ff_types.specs.Cases.{IsTermOf, IsConstraintOf}
-use Rattle.ff_types.proofs.Computing.{both}
-use Rattle.ff_types.proofs.Memberships.{no_member, by_member, in_filter, filter_in, range_in}
 use Rattle.ff_cells.specs.declared.cell.Cell.{Cell}
 use Rattle.ff_cells.specs.FaceSets.{HaveFaceSets}
 use Rattle.ff_pairs.specs.Together.{AreTogether, ArePairsOf}
 use Rattle.ff_types.specs.Splitting.{IsFull}
-use Rattle.ff_trans.specs.Triples.{HasThree, HasCite, IsTriple, AreSomeTriples, AreWitnessed, AreTriples, AreNoTriples}
+use Rattle.ff_trans.specs.Triples.{HasThree, HasCite, IsTriple, AreSomeTriples, AreWitnessed, AreTriples, WhyNoTriples}
 use Rattle.ff_types.specs.Pairs.{AreSorted, pair_at}
 use Rattle.ff_trans.specs.Rows.{IsListedBefore, IsListedTo, IsFirst, IsOfFaces, IsTaken, AreFoundTo, IsRow, IsReach}
 use Rattle.ff_trans.specs.declared.found.Found.{Found}
 use Rattle.ff_trans.proofs.Lists.{pair_there, row_takes, row_begins, row_skips, row_ends}
 
 -- ---- tests of members
-
-all_of : {A : Type 0} (p : A → Bool) (l : List A) → IsTrue (list_all p l) → (x : A) → Contains l x → IsTrue (p x)
-all_of p [] t x c = absurd (no_member x c)
-all_of p (y ∷ l) t x c = by_member y l x (λ e. subst (λ z. IsTrue (p z)) e (both (p y) (list_all p l) t).0) (λ n. all_of p l (both (p y) (list_all p l) t).1 x n) c
 
 of_three : {A : Type 0} (p : A → Bool) (x y z : A) → IsTrue (p x) → IsTrue (p y) → IsTrue (p z) → IsTrue (list_all p (x ∷ y ∷ z ∷ []))
 of_three p x y z a b c = join (p x) _ a (join (p y) _ b (join (p z) true c refl)) where
@@ -46,10 +43,7 @@ of_three p x y z a b c = join (p x) _ a (join (p y) _ b (join (p z) true c refl)
   join false b s t = absurd (false≢true s)
 
 over_has : (g : Sheet) (s : Place) (f : ℕ) → IsTrue (is_inside g f s) → Contains (over g s) f
-over_has g s f t = filter_in (λ f. is_inside g f s) (faces_of g) f (range_in 0 (length g.rings) f (omega arith) (let l = ltb-true f (length g.rings) (both (is_face g f) _ t).0 in omega (arith, l))) t
-
-some_in : (xs : List ℕ) (f : ℕ) → Contains xs f → 0 < length xs
-some_in xs f (k, l, e) = omega (arith, l)
+over_has g s f t = filter_in (λ f. is_inside g f s) (faces_of g) f (range_in 0 (length g.rings) f (omega arith) (let l = ltb-true f (length g.rings) (both_of (is_face g f) _ t).0 in omega (arith, l))) t
 
 -- ---- one triple
 
@@ -75,7 +69,7 @@ module _ (g : Sheet) (cells : List Cell) (have : HaveFaceSets g cells) where
     w = (have.each t.has.cell (listed_cell cells t.place t.has.cell t.has.there)).witness
 
     each : (f : ℕ) → Contains t.has.cell.faces f → IsTrue (witness_face g t.has.cell.at f)
-    each f n = all_of (witness_face g t.has.cell.at) t.has.cell.faces w.witness f n
+    each f n = all_at (witness_face g t.has.cell.at) t.has.cell.faces w.witness f n
 
   small : (c : Cite) → IsTriple cells c → HasSmallPlaces c
   small c t = subst HasSmallPlaces (sym t.cite) (have.each t.has.cell (listed_cell cells t.place t.has.cell t.has.there)).small
@@ -91,10 +85,10 @@ module _ (g : Sheet) (cells : List Cell) (have : HaveFaceSets g cells) where
   pub together : (f h k : ℕ) → HaveCommon g (f ∷ h ∷ k ∷ []) → (i : ℕ) × HasThree cells i f h k
   together f h k o = (at.0, record { cell = r.0; there = at.1; first = r.2 f in_f; second = r.2 h in_h; third = r.2 k in_k }) where
     tests : IsTrue (is_inside g f o.at) × IsTrue (list_all (λ f. is_inside g f o.at) (h ∷ k ∷ []))
-    tests = both (is_inside g f o.at) _ o.inside
+    tests = both_of (is_inside g f o.at) _ o.inside
 
     rest : IsTrue (is_inside g h o.at) × IsTrue (list_all (λ f. is_inside g f o.at) (k ∷ []))
-    rest = both (is_inside g h o.at) _ tests.1
+    rest = both_of (is_inside g h o.at) _ tests.1
 
     in_f : Contains (over g o.at) f
     in_f = over_has g o.at f tests.0
@@ -103,10 +97,10 @@ module _ (g : Sheet) (cells : List Cell) (have : HaveFaceSets g cells) where
     in_h = over_has g o.at h rest.0
 
     in_k : Contains (over g o.at) k
-    in_k = over_has g o.at k (both (is_inside g k o.at) true rest.1).0
+    in_k = over_has g o.at k (both_of (is_inside g k o.at) true rest.1).0
 
     r : (c : Cell) × Contains cells c × ((f : ℕ) → Contains (over g o.at) f → Contains c.faces f)
-    r = have.together o.at o.place (some_in (over g o.at) f in_f)
+    r = have.together o.at o.place (member_some (over g o.at) f in_f)
 
     at : (i : ℕ) × (slice_get cells i ≡ Some r.0)
     at = cell_listed cells r.0 r.1
@@ -146,7 +140,7 @@ module _ (cells : List Cell) (pairs : List (ℕ × ℕ)) (are : ArePairsOf cells
         let l = slice_get_within pairs p.0 (f, h) p.1 in
         s.all p.0 f h k i p.1 high t (inl (omega (arith, l, far)))
 
-  pub too_many : (n k : ℕ) (list : List Listed) (x : Listed) → IsListedTo cells pairs n k (list ++ x ∷ []) → (no : No) → IsFull (length list) no → AreNoTriples cells pairs no
+  pub too_many : (n k : ℕ) (list : List Listed) (x : Listed) → IsListedTo cells pairs n k (list ++ x ∷ []) → (no : No) → IsFull (length list) no → WhyNoTriples cells pairs no
   too_many n k list x s NoMemory full = tt
   too_many n k list x s (Refused r) full =
       let one = length_push list x in
@@ -223,7 +217,7 @@ module _ (cells : List Cell) (pairs : List (ℕ × ℕ)) (are : ArePairsOf cells
         room = omega (arith, long, counted, before, room);
       }
 
-  pub too_many_taken : (why : No) → IsFull old.count why → AreNoTriples cells pairs why
+  pub too_many_taken : (why : No) → IsFull old.count why → WhyNoTriples cells pairs why
   too_many_taken why full =
       let there = pair_there pairs n within in
       let low = are.sorted.rising n (pair_at pairs n) there in
@@ -243,7 +237,7 @@ module _ (cells : List Cell) (pairs : List (ℕ × ℕ)) (n : ℕ) where
   pub found_ends : (k : ℕ) (found : Found) → ((i third : ℕ) → HasThree cells i (pair_at pairs n).0 (pair_at pairs n).1 third → third < k) → AreFoundTo cells pairs n k found → AreFoundTo cells pairs (n + 1) 0 found
   found_ends k found last so = record { list = so.list; to = row_ends cells pairs n k so.list last so.to; count = so.count; kept = so.kept; room = so.room }
 
--- no face at the end of the row or after shares a cell with both
+-- no face at the end of the row or after shares a cell with both_of
 pub third_before : (cells : List Cell) (f h w k reach : ℕ) (row : List (Option ℕ)) → IsRow cells f h w row → IsReach row reach → h < k → reach ≤ k
     → ((i third : ℕ) → HasThree cells i f h third → third < w) → (i third : ℕ) → HasThree cells i f h third → third < k
 third_before cells f h w k reach row r at above far below i third three = elim (either third k) [

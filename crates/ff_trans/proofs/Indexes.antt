@@ -8,31 +8,13 @@ use Rattle.std.proofs.lemmas.List.{map_push, length-set, get_or-set_same, get_or
 use Rattle.std.proofs.lemmas.List.Kept.{AllPairs-from_increasing}
 use Rattle.std.proofs.Math.ListN.{take}
 use Rattle.std.proofs.Math.Seq.{take-append_seam}
-use Rattle.std.proofs.lemmas.Option.{slice_get_within}
+use Rattle.std.proofs.lemmas.Option.{slice_get_within, same_Some}
+use Rattle.ff_basics.specs.NumberedLists.{list_at, lists_in}
+use Rattle.ff_basics.proofs.Numbers.{last_or}
 use Rattle.ff_whole.proofs.Searches.{search}
 use Rattle.ff_cells.specs.declared.cell.Cell.{Cell}
-use Rattle.ff_trans.specs.Rows.{HasFace, AreCellsOf, HoldBoth, list_at, lists_in, AreIndexed, IsPut}
-use Rattle.ff_trans.proofs.Marks.{below_or, some_is, place_in, member_at}
-
-pub put_one : (lists : List (Vec ℕ Global)) (p v : ℕ) (old new : Vec ℕ Global) → p < length lists → old ≡ get_or lists p old
-    → new.items ≡ (get_or lists p old).items ++ v ∷ [] → lists_in (set lists p new) ≡ set (lists_in lists) p (list_at (lists_in lists) p ++ v ∷ [])
-put_one lists p v old new l read is =
-    let here : list_at (lists_in lists) p ≡ (get_or lists p old).items = get_or-map (λ v. v.items) lists p old [] l in
-    map-set lists p new ∙ ap (set (lists_in lists) p) (is ∙ ap (λ xs. xs ++ v ∷ []) (sym here))
-  where
-    map-set : (ls : List (Vec ℕ Global)) (k : ℕ) (n : Vec ℕ Global) → lists_in (set ls k n) ≡ set (lists_in ls) k n.items
-    map-set [] k n = refl
-    map-set (x ∷ ls) zero n = refl
-    map-set (x ∷ ls) (suc k) n = ap (λ r. x.items ∷ r) (map-set ls k n)
-
-pub empty_on : (lists new : List (Vec ℕ Global)) (k : ℕ) (v : Vec ℕ Global) → lists_in lists ≡ replicate k []
-    → v.items ≡ [] → new ≡ lists ++ v ∷ [] → lists_in new ≡ replicate (k + 1) []
-empty_on lists new k v is none e = ap lists_in e ∙ map_push (λ (w : Vec ℕ Global). w.items) lists v
-    ∙ ap (λ ls. ls ++ v.items ∷ []) is ∙ ap (λ xs. replicate k [] ++ xs ∷ []) none ∙ replicate_more k []
-
-pub length_in : (lists : List (Vec ℕ Global)) → length (lists_in lists) ≡ length lists
-length_in [] = refl
-length_in (x ∷ xs) = ap suc (length_in xs)
+use Rattle.ff_trans.specs.Rows.{HasFace, AreCellsOf, HoldBoth, AreIndexed, IsPut}
+use Rattle.ff_trans.proofs.Marks.{place_in, member_at}
 
 -- ---- one cell
 
@@ -43,7 +25,7 @@ pub put_more : (faces : List ℕ) (j cell : ℕ) (old mid new : List (List ℕ))
     → IsPut faces j cell old mid → new ≡ slice_set mid (slice_index faces j) (list_at mid (slice_index faces j) ++ cell ∷ []) → IsPut faces (j + 1) cell old new
 put_more faces j cell old mid new up l below a e = record {
   long = ap length e ∙ length-set mid f (list_at mid f ++ cell ∷ []) ∙ a.long;
-  put = λ i m. elim (below_or i j m) [
+  put = λ i m. elim (last_or i j m) [
     | inl n ↦ ap (λ ls. list_at ls (slice_index faces i)) e ∙ get_or-set_other mid f (slice_index faces i) (list_at mid f ++ cell ∷ []) [] (different i n) ∙ a.put i n
     | inr n ↦ ap (λ ls. list_at ls (slice_index faces i)) e ∙ ap (λ k. list_at (set mid f (list_at mid f ++ cell ∷ [])) k) (ap (slice_index faces) n)
         ∙ get_or-set_same mid f (list_at mid f ++ cell ∷ []) [] within ∙ ap (λ xs. xs ++ cell ∷ []) (fresh ∙ ap (list_at old) (ap (slice_index faces) (sym n)))
@@ -96,7 +78,7 @@ module _ (cells : List Cell) (i f : ℕ) (list : List ℕ) (of : AreCellsOf cell
       | inl d ↦ subst (λ v. (v < i + 1) × HasFace cells v f) (sym d.1) (let r = of.each x d.0 in let b = r.0 in (omega (arith, b), r.1))
       | inr d ↦ subst (λ v. (v < i + 1) × HasFace cells v f) (sym d.1) (omega arith, has)
     ];
-    all = λ k l face. elim (below_or k i l) [
+    all = λ k l face. elim (last_or k i l) [
       | inl m ↦ (let r = of.all k m face in let b = r.1 in let e = kept r.0 r.1 in let le = r.2 in
           (r.0, (let n = longer in omega (arith, b, n)), e ∙ le))
       | inr m ↦ (let e : slice_index (list ++ i ∷ []) (length list) ≡ k = get_or_push list i 0 (length list) refl ∙ sym m in
@@ -108,7 +90,7 @@ module _ (cells : List Cell) (i f : ℕ) (list : List ℕ) (of : AreCellsOf cell
   without_cell not = record {
     rising = of.rising;
     each = λ x m. (let r = of.each x m in let b = r.0 in (omega (arith, b), r.1));
-    all = λ k l face. elim (below_or k i l) [ inl m ↦ of.all k m face | inr m ↦ absurd (not (subst (λ n. HasFace cells n f) m face)) ];
+    all = λ k l face. elim (last_or k i l) [ inl m ↦ of.all k m face | inr m ↦ absurd (not (subst (λ n. HasFace cells n f) m face)) ];
   }
 
 pub index_more : (cells : List Cell) (i w : ℕ) (c : Cell) (old new : List (List ℕ)) → slice_get cells i ≡ Some c → AreIndexed cells i w old → IsPut c.faces (length c.faces) i old new → AreIndexed cells (i + 1) w new
@@ -118,7 +100,7 @@ index_more cells i w c old new at a p = record { long = p.long ∙ a.long; each 
     | inl r ↦ subst (AreCellsOf cells (i + 1) f) (sym (subst (λ k. list_at new k ≡ list_at old k ++ i ∷ []) r.2 (p.put r.0 r.1)))
         (with_cell cells i f (list_at old f) (a.each f l) (record { cell = c; there = at; face = member_at c.faces f r.0 r.1 r.2 }))
     | inr none ↦ subst (AreCellsOf cells (i + 1) f) (sym (p.same f none))
-        (without_cell cells i f (list_at old f) (a.each f l) (λ has. (let q = place_in c.faces f (subst (λ (z : Cell). Contains z.faces f) (some_is has.cell c (sym has.there ∙ at)) has.face) in none q.0 q.1 q.2)))
+        (without_cell cells i f (list_at old f) (a.each f l) (λ has. (let q = place_in c.faces f (subst (λ (z : Cell). Contains z.faces f) (same_Some has.cell c (sym has.there ∙ at)) has.face) in none q.0 q.1 q.2)))
   ]
 
 -- what is read of lists that are written whole

@@ -1,9 +1,10 @@
 -- The order of triples by their keys.
 use Rattle.std.proofs.Common.{◌≡◌, ℕ, ◌<◌, ◌==◌, ◌&&◌, ◌||◌, ◌⊎◌, inl, inr, refl, Bool, true, false, IsTrue, List, ◌∷◌, nat_lt}
 use Rattle.std.proofs.lemmas.Bool.{lt-ltb, ltb-true, false≢true, eqb-true}
+use Rattle.ff_basics.proofs.Numbers.{same_number}
+use Rattle.ff_basics.proofs.Tests.{of_second}
 use Rattle.ff_types.specs.Pairs.{is_before}
 use Rattle.ff_types.specs.Faces.{list_before}
-use Rattle.ff_types.proofs.Computing.{equal_itself}
 
 -- what the order of pairs says
 pub by_pair : (p q : ℕ × ℕ) → IsTrue (is_before p q) → (p.0 < q.0) ⊎ ((p.0 ≡ q.0) × (p.1 < q.1))
@@ -14,13 +15,9 @@ by_pair p q t = by (nat_lt p.0 q.0) (p.0 == q.0) (nat_lt p.1 q.1) refl refl refl
   by false true false d e f t = absurd (false≢true t)
   by false false c d e f t = absurd (false≢true t)
 
-or_then : (a b : Bool) → IsTrue b → IsTrue (a || b)
-or_then true b t = refl
-or_then false b t = t
-
 -- a lesser number, or the same number and then a lesser list
 pub at_first : (x y : ℕ) (xs ys : List ℕ) → x < y → IsTrue (list_before (x ∷ xs) (y ∷ ys))
 at_first x y xs ys l = rw (lt-ltb x y l) refl
 
 pub at_next : (x y : ℕ) (xs ys : List ℕ) → x ≡ y → IsTrue (list_before xs ys) → IsTrue (list_before (x ∷ xs) (y ∷ ys))
-at_next x y xs ys e t = or_then (nat_lt x y) ((x == y) && list_before xs ys) (rw (e, equal_itself y) t)
+at_next x y xs ys e t = of_second (nat_lt x y) ((x == y) && list_before xs ys) (rw (e, same_number y) t)

@@ -1,6 +1,8 @@
 -- The list of triples, as far as it is made.
 use Rattle.std.proofs.Common.{◌≡◌, ℕ, zero, suc, ◌+◌, ◌<◌, ◌⊎◌, inl, inr, refl, sym, ap, ◌∙◌, subst, arith, IsTrue, List, [], ◌∷◌, ◌++◌, length, slice_get, Some, None}
-use Rattle.std.proofs.lemmas.Option.{slice_get_within, slice_get-get_or, get_or_from_slice_get}
+use Rattle.std.proofs.lemmas.Option.{slice_get_within, slice_get-get_or, get_or_from_slice_get, same_Some}
+use Rattle.ff_basics.proofs.Numbers.{last_or}
+use Rattle.ff_basics.proofs.Lists.{get_before, get_either, get_last}
 use Rattle.ff_types.specs.declared.cites.Cite.TheVariants.{Transitivity}
 use Rattle.ff_types.specs.declared.cites.Listed.{Listed}
 use Rattle.ff_types.specs.Pairs.{pair_at, AreSorted}
@@ -10,25 +12,9 @@ use Rattle.ff_types.specs.Cases.{key, IsConstraintOf}
 use Rattle.ff_cells.specs.declared.cell.Cell.{Cell}
 use Rattle.ff_trans.specs.Triples.{HasThree, HasCite, AreInOrder}
 use Rattle.ff_trans.specs.Rows.{IsFirst, IsPrior, IsListedBefore, IsListedTo}
-use Rattle.ff_trans.proofs.Marks.{below_or, some_is}
 use Rattle.ff_trans.proofs.Keys.{by_pair, at_first, at_next}
 
 -- ---- a list with one more
-
-get_before : {A : Type 0} (xs : List A) (y x : A) (n : ℕ) → slice_get xs n ≡ Some x → slice_get (xs ++ y ∷ []) n ≡ Some x
-get_before [] y x n e = absurd (omega (arith, slice_get_within [] n x e))
-get_before (z ∷ xs) y x zero e = e
-get_before (z ∷ xs) y x (suc n) e = get_before xs y x n e
-
-get_last : {A : Type 0} (xs : List A) (y : A) → slice_get (xs ++ y ∷ []) (length xs) ≡ Some y
-get_last [] y = refl
-get_last (z ∷ xs) y = get_last xs y
-
-get_either : {A : Type 0} (xs : List A) (y x : A) (n : ℕ) → slice_get (xs ++ y ∷ []) n ≡ Some x → (slice_get xs n ≡ Some x) ⊎ ((n ≡ length xs) × (x ≡ y))
-get_either [] y x zero e = inr (refl, sym (some_is y x e))
-get_either [] y x (suc n) e = absurd (omega (arith, slice_get_within [] n x e))
-get_either (z ∷ xs) y x zero e = inl e
-get_either (z ∷ xs) y x (suc n) e = elim (get_either xs y x n e) [ inl d ↦ inl d | inr d ↦ inr (ap suc d.0, d.1) ]
 
 pub pair_there : (pairs : List (ℕ × ℕ)) (n : ℕ) → n < length pairs → slice_get pairs n ≡ Some (pair_at pairs n)
 pair_there pairs n l = slice_get-get_or pairs n (0, 0) l
@@ -80,7 +66,7 @@ module _ (cells : List Cell) (pairs : List (ℕ × ℕ)) where
 
   either_prior : (n k m d : ℕ) → IsPrior m d n (k + 1) → IsPrior m d n k ⊎ ((m ≡ n) × (d ≡ k))
   either_prior n k m d (inl l) = inl (inl l)
-  either_prior n k m d (inr l) = elim (below_or d k l.1) [ inl b ↦ inl (inr (l.0, b)) | inr e ↦ inr (l.0, e) ]
+  either_prior n k m d (inr l) = elim (last_or d k l.1) [ inl b ↦ inl (inr (l.0, b)) | inr e ↦ inr (l.0, e) ]
 
   pub row_skips : (n k : ℕ) (list : List Listed) → IsFirst cells (pair_at pairs n).0 (pair_at pairs n).1 k None → Listed_to n k list → Listed_to n (k + 1) list
   row_skips n k list none s = record {
@@ -108,7 +94,7 @@ module _ (cells : List Cell) (pairs : List (ℕ × ℕ)) where
 
     back : (m f h third i : ℕ) → slice_get pairs m ≡ Some (f, h) → HasThree cells i f h third → IsPrior m third (n + 1) 0 → IsPrior m third n k
     back m f h third i at three (inr p) = absurd (let b = p.1 in omega (arith, b))
-    back m f h third i at three (inl p) = elim (below_or m n p) [
+    back m f h third i at three (inl p) = elim (last_or m n p) [
       | inl b ↦ inl b
       | inr e ↦ (let q = same_pair n f h (subst (λ j. slice_get pairs j ≡ Some (f, h)) e at) in inr (
         e,

@@ -6,16 +6,12 @@ use Rattle.ff_cells.specs.declared.cell.Cell.{Cell}
 use Rattle.ff_trans.specs.Triples.{HasThree}
 use Rattle.std.specs.List.Sorted.{IsStrictlyIncreasing}
 use Rattle.std.proofs.lemmas.List.Kept.{AllPairs-from_increasing}
+use Rattle.std.proofs.lemmas.Option.{same_Some}
+use Rattle.ff_basics.proofs.Numbers.{last_or}
 use Rattle.ff_trans.specs.Rows.{HoldBoth, row_at, IsClear, IsMarked, IsMarkedWith, IsReach, AreSameFrom, IsFirstOf, IsRowTo, IsFirst, IsRow}
-
-pub below_or : (k n : ℕ) → k < n + 1 → (k < n) ⊎ (k ≡ n)
-below_or k n l = grind (arith, l)
 
 apart : {A : Type 0} (o : Option A) (x : A) → o ≡ None → o ≡ Some x → ⊥
 apart o x e f = cc
-
-pub some_is : {A : Type 0} (x y : A) → Some x ≡ Some y → x ≡ y
-some_is x y e = cc
 
 -- the place of a member, and a member by its place
 pub place_in : (xs : List ℕ) (f : ℕ) → Contains xs f → (j : ℕ) × (j < length xs) × (slice_index xs j ≡ f)
@@ -34,7 +30,7 @@ pub marked_more : (faces : List ℕ) (from j cell x : ℕ) (old mid new : List (
 marked_more faces from j cell x old mid new le e a b = record {
   long = b.long ∙ a.long;
   kept = λ k y s. b.kept k y (a.kept k y s);
-  marked = λ i g l n. elim (below_or i j l) [
+  marked = λ i g l n. elim (last_or i j l) [
     | inl m ↦ b.kept (slice_index faces i) cell (a.marked i g m n)
     | inr m ↦ at_last i m n
   ];
@@ -84,7 +80,7 @@ module _ (cells : List Cell) (list : List ℕ) (f h w : ℕ) (of : HoldBoth cell
   next_some n k y l (at, has, before) = (
     (at.0, (let m = at.1 in omega (arith, m)), at.2),
     has,
-    λ x m less three. elim (below_or x n m) [
+    λ x m less three. elim (last_or x n m) [
       | inl b ↦ before x b less three
       | inr b ↦ (let r = of.rising at.0 n at.1 l in let e = at.2 in
           absurd (later (slice_index list x) (slice_index list n) (slice_index list at.0) y (ap (slice_index list) b) r e less))
@@ -97,11 +93,11 @@ module _ (cells : List Cell) (list : List ℕ) (f h w : ℕ) (of : HoldBoth cell
     -- what the next cell has
     of_next : (x k : ℕ) → x ≡ n → HasThree cells (slice_index list x) f h k → Contains c.faces f × Contains c.faces h × Contains c.faces k
     of_next x k e three =
-        let same : three.cell ≡ c = some_is three.cell c (sym three.there ∙ ap (λ i. slice_get cells (slice_index list i)) e ∙ at) in
+        let same : three.cell ≡ c = same_Some three.cell c (sym three.there ∙ ap (λ i. slice_get cells (slice_index list i)) e ∙ at) in
         (subst (λ (z : Cell). Contains z.faces f) same three.first, subst (λ (z : Cell). Contains z.faces h) same three.second, subst (λ (z : Cell). Contains z.faces k) same three.third)
 
     now_none : (k : ℕ) → IsFirstOf cells list n f h k None → (Contains c.faces f → Contains c.faces h → Contains c.faces k → ⊥) → IsFirstOf cells list (n + 1) f h k None
-    now_none k none not x m three = elim (below_or x n m) [
+    now_none k none not x m three = elim (last_or x n m) [
       | inl b ↦ none x b three
       | inr b ↦ (let t = of_next x k b three in not t.0 t.1 t.2)
     ]
@@ -110,7 +106,7 @@ module _ (cells : List Cell) (list : List ℕ) (f h w : ℕ) (of : HoldBoth cell
     now_some k none first second third = (
       (n, omega arith, refl),
       record { cell = c; there = at; first = first; second = second; third = third },
-      λ x m less three. elim (below_or x n m) [
+      λ x m less three. elim (last_or x n m) [
         | inl b ↦ none x b three
         | inr b ↦ absurd (not_less (slice_index list x) (slice_index list n) (ap (slice_index list) b) less)
       ],
@@ -141,7 +137,7 @@ module _ (cells : List Cell) (list : List ℕ) (f h w : ℕ) (of : HoldBoth cell
         either p j = grind arith
 
         no_more : (j p : ℕ) → j < p + 1 → p < length c.faces → slice_index c.faces j ≤ slice_index c.faces p
-        no_more j p l m = elim (below_or j p l) [
+        no_more j p l m = elim (last_or j p l) [
           | inl b ↦ (let q = AllPairs-from_increasing c.faces up j p 0 b m in omega (arith, q))
           | inr e ↦ (let q = ap (slice_index c.faces) e in omega (arith, q))
         ]

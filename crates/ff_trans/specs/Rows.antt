@@ -3,6 +3,7 @@
 use Rattle.std.specs.Prelude.{◌≡◌, ℕ, ◌+◌, ◌<◌, ◌≤◌, true, ◌⊎◌, List, [], ◌∷◌, ◌++◌, map, Vec, length, slice_get, slice_index, slice_index_or, Option, Some, None}
 use Rattle.std.specs.declared.alloc.Global.{Global}
 use Rattle.std.specs.List.{Contains}
+use Rattle.ff_basics.specs.NumberedLists.{list_at}
 use Rattle.ff_types.specs.declared.cites.Cite.TheVariants.{Transitivity}
 use Rattle.ff_types.specs.declared.cites.Listed.{Listed}
 use Rattle.ff_types.specs.Sheets.{Sheet}
@@ -19,9 +20,6 @@ pub record HasFace (cells : List Cell) (i f : ℕ) : Type 0 where
   pub there : slice_get cells i ≡ Some cell
   pub face : Contains cell.faces f
 
-abbrev pub lists_in : List (Vec ℕ Global) → List (List ℕ)
-lists_in vs = map (λ v. v.items) vs
-
 -- those of the first n cells that have the face, in order
 pub record AreCellsOf (cells : List Cell) (n f : ℕ) (list : List ℕ) : Type 0 where
   pub rising : (x y : ℕ) → x < y → y < length list → slice_index list x < slice_index list y
@@ -34,9 +32,6 @@ pub record HoldBoth (cells : List Cell) (f h : ℕ) (list : List ℕ) : Type 0 w
   pub within : (x : ℕ) → x < length list → slice_index list x < length cells
   pub all : (i : ℕ) → HasFace cells i f → HasFace cells i h → (x : ℕ) × (x < length list) × (slice_index list x ≡ i)
 
-abbrev pub list_at : List (List ℕ) → ℕ → List ℕ
-list_at lists f = slice_index_or lists f []
-
 -- so it is for each face below w
 pub record AreIndexed (cells : List Cell) (n w : ℕ) (lists : List (List ℕ)) : Type 0 where
   pub long : length lists ≡ w
@@ -48,6 +43,7 @@ pub record IsPut (faces : List ℕ) (n cell : ℕ) (old new : List (List ℕ)) :
   pub put : (j : ℕ) → j < n → list_at new (slice_index faces j) ≡ list_at old (slice_index faces j) ++ cell ∷ []
   pub same : (f : ℕ) → ((j : ℕ) → j < n → slice_index faces j ≡ f → ⊥) → list_at new f ≡ list_at old f
 
+-- the entry of a row
 abbrev pub row_at : List (Option ℕ) → ℕ → Option ℕ
 row_at row k = slice_index_or row k None
 

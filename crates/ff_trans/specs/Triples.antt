@@ -67,8 +67,8 @@ pub record AreTriples (cells : List Cell) (pairs : List (ℕ × ℕ)) (list : Li
       → HasCite list (0 ∷ f ∷ h ∷ k ∷ [])
 
 -- Why there is no list: there are more than the limit, or memory was refused.
-abbrev pub AreNoTriples : List Cell → List (ℕ × ℕ) → No → Type 0
-AreNoTriples cells pairs NoMemory = Unit {0}
-AreNoTriples cells pairs (Refused r) = (r ≡ TooMany Constraints MOST_CONSTRAINTS)
+abbrev pub WhyNoTriples : List Cell → List (ℕ × ℕ) → No → Type 0
+WhyNoTriples cells pairs NoMemory = Unit {0}
+WhyNoTriples cells pairs (Refused r) = (r ≡ TooMany Constraints MOST_CONSTRAINTS)
     × ((list : List Listed) × AreSomeTriples cells pairs list × (MOST_CONSTRAINTS < length list)
     × ((g : Sheet) → HaveFaceSets g cells → AreWitnessed g list))

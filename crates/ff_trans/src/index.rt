@@ -2,8 +2,9 @@
 ghost use Rattle.std.specs.Prelude.{◌≡◌, ◌++◌, ◌∷◌, [], ◌<◌, length, replicate, slice_set, IfOk};
 ghost use Rattle.std.specs.List.{All};
 ghost use Rattle.std.specs.List.Sorted.{IsStrictlyIncreasing};
+ghost use Rattle.ff_basics.specs.NumberedLists.{list_at, lists_in};
 ghost use Rattle.ff_cells.specs.FaceSets.{IsFaceList};
-ghost use Rattle.ff_trans.specs.Rows.{list_at, lists_in, IsPut, AreIndexed};
+ghost use Rattle.ff_trans.specs.Rows.{IsPut, AreIndexed};
 
 use ff_cells::Cell;
 use ff_tables::NoMemory;

@@ -1,14 +1,15 @@
 //! The triples of faces that have a common place.
 ghost use Rattle.std.specs.Prelude.{◌≡◌, ◌<◌, ◌≤◌, ◌+◌, ℕ, List, length, IfOk, IfErr, OnOk};
 ghost use Rattle.std.specs.List.{All};
+ghost use Rattle.ff_basics.specs.NumberedLists.{lists_in};
 ghost use Rattle.ff_types.specs.declared.limits.TheConstants.{MOST_FACES as most_faces};
 ghost use Rattle.ff_types.specs.Pairs.{pair_at};
 ghost use Rattle.ff_cells.specs.FaceSets.{IsFaceList};
 ghost use Rattle.ff_pairs.specs.Together.{ArePairsOf};
 ghost use Rattle.ff_types.specs.declared.limits.TheConstants.{MOST_CONSTRAINTS as most_constraints};
-ghost use Rattle.ff_trans.specs.Triples.{AreTriples, AreNoTriples};
+ghost use Rattle.ff_trans.specs.Triples.{AreTriples, WhyNoTriples};
 ghost use Rattle.ff_cells.specs.declared.cell.Cell.{Cell as CellRow};
-ghost use Rattle.ff_trans.specs.Rows.{IsFirst, IsRow, HoldBoth, AreIndexed, lists_in, IsClear, IsReach, AreFoundTo};
+ghost use Rattle.ff_trans.specs.Rows.{IsFirst, IsRow, HoldBoth, AreIndexed, IsClear, IsReach, AreFoundTo};
 
 use crate::found::Found;
 use crate::index::index;
@@ -36,7 +37,7 @@ fn take_triple(
     requires found { AreFoundTo cells.now pairs.now n k found.old }
     ensures found { OnOk result (AreFoundTo cells.now pairs.now n (k + 1) found.new) }
     ensures keeps { OnOk result (found.new.keeps ≡ found.old.keeps) }
-    ensures refused { IfErr result (AreNoTriples cells.now pairs.now) }
+    ensures refused { IfErr result (WhyNoTriples cells.now pairs.now) }
 {
     let (f, h) = pairs.faces(n);
     match cell {
@@ -65,7 +66,7 @@ fn take_row(
     ensures keeps { OnOk result (found.new.keeps ≡ found.old.keeps) }
     ensures long { OnOk result (length row.new ≡ length row.old) }
     ensures clear { OnOk result (IsClear row.new) }
-    ensures refused { IfErr result (AreNoTriples cells.now pairs.now) }
+    ensures refused { IfErr result (WhyNoTriples cells.now pairs.now) }
 {
     let (_f, h) = pairs.faces(n);
     for k in h + 1..reach as u32 {
@@ -111,7 +112,7 @@ fn take_pair(
     ensures keeps { OnOk result (found.new.keeps ≡ found.old.keeps) }
     ensures long { OnOk result (length row.new ≡ length row.old) }
     ensures clear { OnOk result (IsClear row.new) }
-    ensures refused { IfErr result (AreNoTriples cells.now pairs.now) }
+    ensures refused { IfErr result (WhyNoTriples cells.now pairs.now) }
 {
     let (f, h) = pairs.faces(n);
     let reach = mark_row(row, cells, shorter(lists, f, h), f, h);
@@ -138,7 +139,7 @@ fn take_pairs(
     ensures keeps { OnOk result (found.new.keeps ≡ found.old.keeps) }
     ensures long { OnOk result (length row.new ≡ length row.old) }
     ensures clear { OnOk result (IsClear row.new) }
-    ensures refused { IfErr result (AreNoTriples cells.now pairs.now) }
+    ensures refused { IfErr result (WhyNoTriples cells.now pairs.now) }
 {
     for n in 0..pairs.count() as u32 {
         take_pair(found, cells, pairs, lists, n, row)?;
@@ -172,7 +173,7 @@ fn listed_triples(alloc: Global, cells: &[Cell], pairs: &Pairs) -> Result<Listin
     requires pairs { ArePairsOf cells.now pairs.now }
     ensures made { IfOk result (AreTriples cells.now pairs.now) }
     ensures few { IfOk result (λ list. length list ≤ most_constraints) }
-    ensures refused { IfErr result (AreNoTriples cells.now pairs.now) }
+    ensures refused { IfErr result (WhyNoTriples cells.now pairs.now) }
 {
     let lists = index(alloc, cells, width(cells))?;
     let mut row = clear_row(alloc, lists.len())?;
@@ -204,7 +205,7 @@ pub fn triples(alloc: Global, cells: &Items<Cell>, pairs: &Pairs) -> Result<List
     requires pairs { ArePairsOf cells.now pairs.now }
     ensures made { IfOk result (λ list. AreTriples cells.now pairs.now list) }
     ensures few { IfOk result (λ list. length list ≤ most_constraints) }
-    ensures refused { IfErr result (AreNoTriples cells.now pairs.now) }
+    ensures refused { IfErr result (WhyNoTriples cells.now pairs.now) }
 {
     listed_triples(alloc, cells.as_slice(), pairs)
 }

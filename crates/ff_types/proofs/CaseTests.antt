@@ -5,6 +5,8 @@ use Rattle.std.specs.Ordering.{int_eq}
 use Rattle.std.proofs.lemmas.Int.{ints}
 use Rattle.std.proofs.lemmas.Bool.Decides.{Decides-int_eq}
 use Rattle.std.proofs.lemmas.Bool.{false≢true, ltb-true}
+use Rattle.std.proofs.lemmas.Option.{none-some, same_Some}
+use Rattle.ff_basics.proofs.Tests.{both_of}
 use Rattle.ff_tables.specs.declared.orders.Order.{Order}
 use Rattle.ff_tables.specs.declared.orders.Order.TheVariants.{Below, Above}
 use Rattle.ff_tables.specs.declared.givens.Given.{Given}
@@ -27,17 +29,10 @@ use Rattle.ff_types.specs.declared.patterns.Mark.TheVariants.{M, V, U}
 use Rattle.ff_types.specs.Foldings.{is_folded}
 use Rattle.ff_whole.specs.Places.{blend, height, past}
 use Rattle.ff_types.proofs.Named.{crease}
-use Rattle.ff_types.proofs.Computing.{both}
 use Rattle.ff_types.proofs.StackingTests.{crease_overlap}
 use Rattle.ff_types.proofs.FewFaces.{inside_face, which_two}
 
 -- ---- the values
-
-none_is : {A : Type 0} (x : A) → None ≡ Some x → ⊥
-none_is x e = cc
-
-some_is : {A : Type 0} (x y : A) → Some x ≡ Some y → x ≡ y
-some_is x y e = cc
 
 abbrev one_pair_list : List (ℕ × ℕ)
 one_pair_list = (0, 1) ∷ []
@@ -46,16 +41,16 @@ abbrev start : Given
 start = record { var = 0; value = Below; by = Crease 4 }
 
 no_constraint : AreFit 1 []
-no_constraint zero con e = absurd (none_is con e)
-no_constraint (suc c) con e = absurd (none_is con e)
+no_constraint zero con e = absurd (none-some con e)
+no_constraint (suc c) con e = absurd (none-some con e)
 
 the_start : (i : ℕ) (g : Given) → slice_get (start ∷ []) i ≡ Some g → start ≡ g
-the_start zero g e = some_is start g e
-the_start (suc i) g e = absurd (none_is g e)
+the_start zero g e = same_Some start g e
+the_start (suc i) g e = absurd (none-some g e)
 
 only_start : (i j : ℕ) (g : Given) → i < j → slice_get (start ∷ []) j ≡ Some g → ⊥
 only_start i zero g h e = omega (arith, h)
-only_start i (suc j) g h e = none_is g e
+only_start i (suc j) g h e = none-some g e
 
 valley_fields : AreCaseFields (record { vars = 1; constraints = []; fit = no_constraint }) [] one_pair_list (start ∷ [])
 valley_fields = record {
@@ -73,9 +68,9 @@ open_fields : AreCaseFields (record { vars = 1; constraints = []; fit = no_const
 open_fields = record {
   cited = refl;
   paired = refl;
-  fit = λ i g e. absurd (none_is g e);
-  by_creases = λ i g e. absurd (none_is g e);
-  rising = λ i j g h d e l x y. absurd (none_is g x);
+  fit = λ i g e. absurd (none-some g e);
+  by_creases = λ i g e. absurd (none-some g e);
+  rising = λ i j g h d e l x y. absurd (none-some g x);
 }
 
 abbrev open_case : Case
@@ -92,7 +87,7 @@ folded_is m (suc zero) t = absurd (false≢true t)
 folded_is m (suc (suc zero)) t = absurd (false≢true t)
 folded_is m (suc (suc (suc zero))) t = absurd (false≢true t)
 folded_is m (suc (suc (suc (suc zero)))) t = refl
-folded_is m (suc (suc (suc (suc (suc e))))) t = absurd (far_edge m e (both (is_edge (crease m) (suc (suc (suc (suc (suc e)))))) (is_folded (mark_of (crease m) (suc (suc (suc (suc (suc e))))))) t).0)
+folded_is m (suc (suc (suc (suc (suc e))))) t = absurd (far_edge m e (both_of (is_edge (crease m) (suc (suc (suc (suc (suc e)))))) (is_folded (mark_of (crease m) (suc (suc (suc (suc (suc e))))))) t).0)
 
 none_flat : (m : Mark) (e : ℕ) → is_flat m ≡ false → IsTrue (is_flat_edge (crease m) e) → ⊥
 none_flat m zero f t = false≢true t
@@ -100,7 +95,7 @@ none_flat m (suc zero) f t = false≢true t
 none_flat m (suc (suc zero)) f t = false≢true t
 none_flat m (suc (suc (suc zero))) f t = false≢true t
 none_flat m (suc (suc (suc (suc zero)))) f t = false≢true (sym f ∙ t)
-none_flat m (suc (suc (suc (suc (suc e))))) f t = far_edge m e (both (is_edge (crease m) (suc (suc (suc (suc (suc e)))))) (is_flat (mark_of (crease m) (suc (suc (suc (suc (suc e))))))) t).0
+none_flat m (suc (suc (suc (suc (suc e))))) f t = far_edge m e (both_of (is_edge (crease m) (suc (suc (suc (suc (suc e)))))) (is_flat (mark_of (crease m) (suc (suc (suc (suc (suc e))))))) t).0
 
 -- ---- no face has the crease inside
 
@@ -111,12 +106,12 @@ three true false r t = absurd (false≢true t)
 three false q r t = absurd (false≢true t)
 
 on_line : (m : Mark) (s : Place) → IsTrue (is_on (crease m) 4 s) → height (line_of (crease m) 4) s ≡ pos 0
-on_line m s t = (Decides-int_eq (height (line_of (crease m) 4) s) (pos 0)).0 (both (int_eq (height (line_of (crease m) 4) s) (pos 0)) (int_le (pos 0) (past (tail (crease m) 4) (head (crease m) 4) s)) (both (int_eq (height (line_of (crease m) 4) s) (pos 0) && int_le (pos 0) (past (tail (crease m) 4) (head (crease m) 4) s)) (int_le (pos 0) (past (head (crease m) 4) (tail (crease m) 4) s)) t).0).0
+on_line m s t = (Decides-int_eq (height (line_of (crease m) 4) s) (pos 0)).0 (both_of (int_eq (height (line_of (crease m) 4) s) (pos 0)) (int_le (pos 0) (past (tail (crease m) 4) (head (crease m) 4) s)) (both_of (int_eq (height (line_of (crease m) 4) s) (pos 0) && int_le (pos 0) (past (tail (crease m) 4) (head (crease m) 4) s)) (int_le (pos 0) (past (head (crease m) 4) (tail (crease m) 4) s)) t).0).0
 
 none_inside : (m : Mark) (face : ℕ) → HasEdgeInside (crease m) face 4 → ⊥
 none_inside m face h = by face (on_line m h.s on.0) (on_line m h.t on.1) (h.inside 1 1 (lit< tt) (lit< tt)) where
   on : IsTrue (is_on (crease m) 4 h.s) × IsTrue (is_on (crease m) 4 h.t)
-  on = both (is_on (crease m) 4 h.s) (is_on (crease m) 4 h.t) h.on
+  on = both_of (is_on (crease m) 4 h.s) (is_on (crease m) 4 h.t) h.on
 
   inner : ℕ → ℕ × ℕ → Bool
   inner f step = int_lt (pos 0) (depth (crease m) f (blend 1 h.s 1 h.t) step)
@@ -133,23 +128,23 @@ no_three g f h k s two l m t = omega (arith, two, l, m, inside_face g k s (three
 
 nothing_holds : (m : Mark) (c : Cite) → is_flat m ≡ false → Holds (crease m) c → ⊥
 nothing_holds m (Transitivity f h k at) flat (a, b, c) = no_three (crease m) f h k c.at refl a b c.inside
-nothing_holds m (TacoTaco e k) flat (a, b, c, d) = let x = both (is_folded_edge (crease m) e) (is_folded_edge (crease m) k) b in omega (arith, a, folded_is m e x.0, folded_is m k x.1)
+nothing_holds m (TacoTaco e k) flat (a, b, c, d) = let x = both_of (is_folded_edge (crease m) e) (is_folded_edge (crease m) k) b in omega (arith, a, folded_is m e x.0, folded_is m k x.1)
 nothing_holds m (TacoFace e face at) flat (a, b) = none_inside m face (subst (λ k. HasEdgeInside (crease m) face k) (folded_is m e a) b)
 nothing_holds m (TacoEdge e q) flat (a, b, c) = none_flat m q flat b
 nothing_holds m (FlatFace q face at) flat (a, b) = none_flat m q flat a
-nothing_holds m (FlatEdge q r) flat (a, b, c) = none_flat m q flat (both (is_flat_edge (crease m) q) (is_flat_edge (crease m) r) b).0
+nothing_holds m (FlatEdge q r) flat (a, b, c) = none_flat m q flat (both_of (is_flat_edge (crease m) q) (is_flat_edge (crease m) r) b).0
 
 -- ---- the pair
 
 one_sorted : AreSorted one_pair_list
 one_sorted = record { rising = rising; sorted = λ m n p q h a b. absurd (late m n q h b) } where
   rising : (n : ℕ) (p : ℕ × ℕ) → slice_get one_pair_list n ≡ Some p → p.0 < p.1
-  rising zero p e = subst (λ (q : ℕ × ℕ). q.0 < q.1) (some_is (0, 1) p e) (lit< tt)
-  rising (suc n) p e = absurd (none_is p e)
+  rising zero p e = subst (λ (q : ℕ × ℕ). q.0 < q.1) (same_Some (0, 1) p e) (lit< tt)
+  rising (suc n) p e = absurd (none-some p e)
 
   late : (m n : ℕ) (q : ℕ × ℕ) → m < n → slice_get one_pair_list n ≡ Some q → ⊥
   late m zero q h e = omega (arith, h)
-  late m (suc n) q h e = none_is q e
+  late m (suc n) q h e = none-some q e
 
 the_pairs : (g : Sheet) → length g.rings ≡ 2 → Overlap g 0 1 → (f h : ℕ) → f < h → Overlap g f h ↔ ((n : ℕ) × (slice_get one_pair_list n ≡ Some (f, h)))
 the_pairs g two o f h l = (λ p. there (which_two g f h two p), λ r. back r.0 r.1) where
@@ -158,13 +153,13 @@ the_pairs g two o f h l = (λ p. there (which_two g f h two p), λ r. back r.0 r
   there (inr e) = absurd (omega (arith, l, e.0, e.1))
 
   back : (n : ℕ) → slice_get one_pair_list n ≡ Some (f, h) → Overlap g f h
-  back zero e = subst (λ (p : ℕ × ℕ). Overlap g p.0 p.1) (some_is (0, 1) (f, h) e) o
-  back (suc n) e = absurd (none_is (f, h) e)
+  back zero e = subst (λ (p : ℕ × ℕ). Overlap g p.0 p.1) (same_Some (0, 1) (f, h) e) o
+  back (suc n) e = absurd (none-some (f, h) e)
 
 -- ---- the cases
 
 no_cite : (n : ℕ) (c : Cite) → slice_get [] n ≡ Some c → ⊥
-no_cite n c e = none_is c e
+no_cite n c e = none-some c e
 
 valley_is : IsCaseOf (crease V) valley_case
 valley_is = record {

@@ -4,6 +4,7 @@ use Rattle.std.specs.Prelude.{◌+ℤ◌, ◌-ℤ◌, unsigned_abs}
 use Rattle.std.specs.List.{list_any}
 use Rattle.std.proofs.lemmas.Int.{ints}
 use Rattle.std.proofs.lemmas.Bool.{false≢true, eqb-true, eqb-false, ltb-true}
+use Rattle.ff_basics.proofs.Tests.{both_of, either_of}
 use Rattle.ff_whole.specs.declared.points.Pt.{Pt}
 use Rattle.ff_whole.specs.Points.{mix, IsNear}
 use Rattle.ff_whole.specs.declared.sizes.TheConstants.{POINT_SIZE}
@@ -13,7 +14,7 @@ use Rattle.ff_whole.proofs.Signs.{nonneg-mul, zero_product, nonneg-mul_nonpos, l
 use Rattle.ff_types.specs.declared.patterns.EdgeEnds.{EdgeEnds}
 use Rattle.ff_types.specs.Patterns.{edge_at, Joins}
 use Rattle.ff_types.specs.Drawings.{IsDrawing, MeetAtEnds, Common, IsEnd, HasTwoEdges, joins, has_end, first_point, last_point}
-use Rattle.ff_types.proofs.Computing.{all_below, any_below, below, below_two, some_below, both, either, is_nonneg, is_nonpos, is_pos, nonneg, nonpos, positive, are_apart, apart}
+use Rattle.ff_types.proofs.Computing.{all_below, any_below, below, below_two, some_below, is_nonneg, is_nonpos, is_pos, nonneg, nonpos, positive, are_apart, apart}
 
 -- how far on one side of a line a point is
 pub record Half : Type 0 where
@@ -30,7 +31,7 @@ mixed h s t p q = solve (h.a ∷ h.b ∷ h.c ∷ pos s ∷ pos t ∷ p.x ∷ p.y
     ((var 3 ⊗ ((var 0 ⊗ var 5) ⊕ ((var 1 ⊗ var 6) ⊕ var 2))) ⊕ (var 4 ⊗ ((var 0 ⊗ var 7) ⊕ ((var 1 ⊗ var 8) ⊕ var 2))))
     (((var 0 ⊗ ((var 3 ⊗ var 5) ⊕ (var 4 ⊗ var 7))) ⊕ (var 1 ⊗ ((var 3 ⊗ var 6) ⊕ (var 4 ⊗ var 8)))) ⊕ ((var 3 ⊕ var 4) ⊗ var 2)) refl
 
--- at a common point both segments are as far on the side
+-- at a common point both_of segments are as far on the side
 same_at : (h : Half) (points : List Pt) (e k : EdgeEnds) (s t u v : ℕ) → Common points e k s t u v
     → (pos s *ℤ at h (first_point points e)) +ℤ (pos t *ℤ at h (last_point points e)) ≡ (pos u *ℤ at h (first_point points k)) +ℤ (pos v *ℤ at h (last_point points k))
 same_at h points e k s t u v c = mixed h s t (first_point points e) (last_point points e)
@@ -77,15 +78,15 @@ pub record Parted (a b c d : ℤ) : Type 0 where
   pub second : (c ≢ pos 0) ⊎ (d ≢ pos 0)
 
 one_of : (p q : Bool) (P Q : Type 0) → (IsTrue p → P) → (IsTrue q → Q) → IsTrue (p || q) → P ⊎ Q
-one_of p q P Q f g e = elim (either p q e) [ inl h ↦ inl (f h) | inr h ↦ inr (g h) ]
+one_of p q P Q f g e = elim (either_of p q e) [ inl h ↦ inl (f h) | inr h ↦ inr (g h) ]
 
 parted : (a b c d : Pt) (h : Half) → IsTrue (parts a b c d h) → Parted (at h a) (at h b) (at h c) (at h d)
 parted a b c d h e =
-    let x = both _ _ e in
-    let y = both _ _ x.0 in
-    let z = both _ _ x.1 in
-    let l = both _ _ z.0 in
-    let o = both _ _ z.1 in
+    let x = both_of _ _ e in
+    let y = both_of _ _ x.0 in
+    let z = both_of _ _ x.1 in
+    let l = both_of _ _ z.0 in
+    let o = both_of _ _ z.1 in
     record {
       a_right = nonpos _ y.0;
       b_right = nonpos _ y.1;
@@ -100,7 +101,7 @@ meet_by points e k h p s t u v c =
     let z = all_zero _ _ _ _ (weights_nonpos s _ p.a_right) (weights_nonpos t _ p.b_right) (weights_nonneg u _ p.c_left) (weights_nonneg v _ p.d_left) (same_at h points e k s t u v c)
     in (end_of s t _ _ z.0 z.1 p.first, end_of u v _ _ z.2 z.3 p.second)
 
--- lines that may part the edges from a to b and from c to d: beside either edge, across an end of the first, and through a common end
+-- lines that may part the edges from a to b and from c to d: beside either_of edge, across an end of the first, and through a common end
 abbrev line : ℤ → ℤ → Pt → ℤ → Half
 line a b p c = record { a = a; b = b; c = c -ℤ ((a *ℤ p.x) +ℤ (b *ℤ p.y)) }
 
@@ -124,7 +125,7 @@ meets_at_ends points e k = list_any (parts (first_point points e) (last_point po
 
 some_of : {A : Type 0} (p : A → Bool) (xs : List A) → IsTrue (list_any p xs) → (x : A) × IsTrue (p x)
 some_of p [] e = absurd (false≢true e)
-some_of p (x ∷ xs) e = elim (either (p x) (list_any p xs) e) [ inl h ↦ (x, h) | inr h ↦ some_of p xs h ]
+some_of p (x ∷ xs) e = elim (either_of (p x) (list_any p xs) e) [ inl h ↦ (x, h) | inr h ↦ some_of p xs h ]
 
 meet : (points : List Pt) (e k : EdgeEnds) → IsTrue (meets_at_ends points e k) → MeetAtEnds points e k
 meet points e k t = let r = some_of (parts (first_point points e) (last_point points e) (first_point points k) (last_point points k)) (candidates (first_point points e) (last_point points e) (first_point points k) (last_point points k)) t in meet_by points e k r.0 (parted _ _ _ _ r.0 r.1)
@@ -135,13 +136,13 @@ abbrev pub is_near : Pt → Bool
 is_near p = nat_lt (unsigned_abs p.x) POINT_SIZE && nat_lt (unsigned_abs p.y) POINT_SIZE
 
 near : (p : Pt) → IsTrue (is_near p) → IsNear p
-near p e = let b = both _ _ e in record { x_below = record { below = ltb-true _ _ b.0 }; y_below = record { below = ltb-true _ _ b.1 } }
+near p e = let b = both_of _ _ e in record { x_below = record { below = ltb-true _ _ b.0 }; y_below = record { below = ltb-true _ _ b.1 } }
 
 abbrev pub joins_two : ℕ → EdgeEnds → Bool
 joins_two n e = nat_lt e.a n && (nat_lt e.b n && not (e.a == e.b))
 
 join : (n : ℕ) (e : EdgeEnds) → IsTrue (joins_two n e) → Joins n e
-join n e t = let b = both _ _ t in let c = both _ _ b.1 in record { first = ltb-true _ _ b.0; second = ltb-true _ _ c.0; differ = eqb-false _ _ (not_true _ c.1) } where
+join n e t = let b = both_of _ _ t in let c = both_of _ _ b.1 in record { first = ltb-true _ _ b.0; second = ltb-true _ _ c.0; differ = eqb-false _ _ (not_true _ c.1) } where
   not_true : (b : Bool) → IsTrue (not b) → b ≡ false
   not_true true e = absurd (false≢true e)
   not_true false e = refl
@@ -152,7 +153,7 @@ two_edges edges v = any_below (length edges) (λ k. has_end (edge_at edges k) v 
 two : (edges : List EdgeEnds) (v : ℕ) → IsTrue (two_edges edges v) → HasTwoEdges edges v
 two edges v t =
     let r = some_below (length edges) (λ k. has_end (edge_at edges k) v && any_below k (λ e. has_end (edge_at edges e) v)) t in
-    let b = both (has_end (edge_at edges r.0) v) (any_below r.0 (λ e. has_end (edge_at edges e) v)) r.2 in
+    let b = both_of (has_end (edge_at edges r.0) v) (any_below r.0 (λ e. has_end (edge_at edges e) v)) r.2 in
     let q = some_below r.0 (λ e. has_end (edge_at edges e) v) b.1 in (q.0, r.0, q.1, r.1, q.2, b.0)
 
 -- two edges: different ones meet at ends and don't join the same vertices
@@ -161,9 +162,9 @@ two_fit points edges e k = (e == k) || (not (joins (edge_at edges e).a (edge_at 
 
 pub fit : (points : List Pt) (edges : List EdgeEnds) (e k : ℕ) → IsTrue (two_fit points edges e k)
     → (IsTrue (joins (edge_at edges e).a (edge_at edges e).b (edge_at edges k)) → e ≡ k) × (e ≢ k → MeetAtEnds points (edge_at edges e) (edge_at edges k))
-fit points edges e k t = elim (either (e == k) _ t) [
+fit points edges e k t = elim (either_of (e == k) _ t) [
   | inl h ↦ ((λ j. eqb-true e k h), (λ d. absurd (d (eqb-true e k h))))
-  | inr h ↦ let b = both _ _ h in ((λ j. absurd (false≢true (subst (λ x. IsTrue (not x)) j b.0))), (λ d. meet points (edge_at edges e) (edge_at edges k) b.1))
+  | inr h ↦ let b = both_of _ _ h in ((λ j. absurd (false≢true (subst (λ x. IsTrue (not x)) j b.0))), (λ d. meet points (edge_at edges e) (edge_at edges k) b.1))
 ]
 
 abbrev pub is_drawing : List Pt → List EdgeEnds → Bool
@@ -173,10 +174,10 @@ is_drawing points edges = all_below (length points) (λ v. is_near (point_at poi
 
 pub drawing : (points : List Pt) (edges : List EdgeEnds) → IsTrue (is_drawing points edges) → IsDrawing points edges
 drawing points edges t =
-    let a = both _ _ t in
-    let b = both _ _ a.1 in
-    let c = both _ _ b.1 in
-    let d = both _ _ c.1 in
+    let a = both_of _ _ t in
+    let b = both_of _ _ a.1 in
+    let c = both_of _ _ b.1 in
+    let d = both_of _ _ c.1 in
     record {
       near = λ v h. near (point_at points v) (below (length points) (λ v. is_near (point_at points v)) a.0 v h);
       apart = apart points b.0;

@@ -4,6 +4,8 @@ use Rattle.std.proofs.Common.{◌≡◌, ℕ, zero, suc, ◌+◌, ◌<◌, ◌==
 use Rattle.std.specs.Prelude.{◌+ℤ◌, if◌then◌else◌}
 use Rattle.std.proofs.lemmas.Int.{ints}
 use Rattle.std.proofs.lemmas.Bool.{false≢true, eqb-true, ltb-true, lt-ltb, le-ltb, leb-true}
+use Rattle.ff_basics.proofs.Numbers.{same_number}
+use Rattle.ff_basics.proofs.Tests.{both_of, either_of}
 use Rattle.ff_whole.specs.declared.points.Pt.{Pt}
 use Rattle.ff_whole.specs.Points.{cross}
 use Rattle.ff_whole.specs.Convex.{next, point_at, left_of}
@@ -18,7 +20,7 @@ use Rattle.ff_types.specs.Rings.{corner, after, corners, Goes, IsRing}
 use Rattle.ff_types.specs.Areas.{area, area_from}
 use Rattle.ff_types.specs.Faces.{ring_at, mark_at, Belongs, Share, AreChained, IsOuter, IsOuterWalk, FitsMark, AreRings, list_before}
 use Rattle.ff_types.specs.Sides.{sides_at, IsFaceOf, AreFaces}
-use Rattle.ff_types.proofs.Computing.{all_below, any_below, below, below_two, some_below, both, either, is_nonpos, nonpos, is_convex, convex, equal_itself}
+use Rattle.ff_types.proofs.Computing.{all_below, any_below, below, below_two, some_below, is_nonpos, nonpos, is_convex, convex}
 
 -- ---- which rings go along a directed edge
 
@@ -28,7 +30,7 @@ goes ring u v = any_below (length ring) (λ i. corner ring i == u && after ring 
 pub goes_so : (ring : List ℕ) (u v : ℕ) → IsTrue (goes ring u v) → Goes ring u v
 goes_so ring u v t =
     let r = some_below (length ring) (λ i. corner ring i == u && after ring i == v) t in
-    let b = both (corner ring r.0 == u) (after ring r.0 == v) r.2 in record { place = r.0; inside = r.1; from = eqb-true _ _ b.0; to = eqb-true _ _ b.1 }
+    let b = both_of (corner ring r.0 == u) (after ring r.0 == v) r.2 in record { place = r.0; inside = r.1; from = eqb-true _ _ b.0; to = eqb-true _ _ b.1 }
 
 any_at : (n : ℕ) (p : ℕ → Bool) (i : ℕ) → i < n → IsTrue (p i) → IsTrue (any_below n p)
 any_at zero p i h t = absurd (omega (arith, h))
@@ -42,7 +44,7 @@ any_at (suc n) p i h t = by (p n) refl (λ (l : i < n). any_at n p i l t) where
 pub so_goes : (ring : List ℕ) (u v : ℕ) → Goes ring u v → IsTrue (goes ring u v)
 so_goes ring u v g = any_at (length ring) (λ i. corner ring i == u && after ring i == v) g.place g.inside (there (corner ring g.place) (after ring g.place) g.from g.to) where
   there : (a b : ℕ) → a ≡ u → b ≡ v → IsTrue (a == u && b == v)
-  there a b e f = rw (e, f, equal_itself u, equal_itself v) refl
+  there a b e f = rw (e, f, same_number u, same_number v) refl
 
 abbrev pub belongs : List (List ℕ) → ℕ → ℕ → Bool
 belongs rings u v = any_below (length rings) (λ f. goes (ring_at rings f) u v)
@@ -74,16 +76,16 @@ mixed_out s t x y h k l =
 
 pub ring : (points : List Pt) (edges : List EdgeEnds) (r : List ℕ) → IsTrue (is_ring points edges r) → IsRing points edges r
 ring points edges r t =
-    let a = both _ _ t in
-    let b = both _ _ a.1 in
-    let c = both _ _ b.1 in
-    let d = both _ _ c.1 in
-    let e = both _ _ d.1 in
-    let there = λ (i : ℕ) (h : i < length r). both (nat_lt (corner r i) (length points)) (joined edges (corner r i) (after r i)) (below (length r) (λ i. nat_lt (corner r i) (length points) && joined edges (corner r i) (after r i)) b.0 i h) in
+    let a = both_of _ _ t in
+    let b = both_of _ _ a.1 in
+    let c = both_of _ _ b.1 in
+    let d = both_of _ _ c.1 in
+    let e = both_of _ _ d.1 in
+    let there = λ (i : ℕ) (h : i < length r). both_of (nat_lt (corner r i) (length points)) (joined edges (corner r i) (after r i)) (below (length r) (λ i. nat_lt (corner r i) (length points) && joined edges (corner r i) (after r i)) b.0 i h) in
     record {
       three = let h : 2 < length r = ltb-true 2 (length r) a.0 in omega arith;
       there = λ i h. ltb-true (corner r i) (length points) (there i h).0;
-      differ = λ i j h l x. elim (either (not (corner r i == corner r j)) (i == j) (below_two (length r) (length r) (λ i j. not (corner r i == corner r j) || (i == j)) c.0 i j h l)) [
+      differ = λ i j h l x. elim (either_of (not (corner r i == corner r j)) (i == j) (below_two (length r) (length r) (λ i j. not (corner r i == corner r j) || (i == j)) c.0 i j h l)) [
         | inl n ↦ absurd (false≢true (subst (λ z. IsTrue (not z)) (same _ _ x) n))
         | inr y ↦ eqb-true i j y
       ];
@@ -93,22 +95,22 @@ ring points edges r t =
           not_in _ (nonpos (left_of (corners points r) q.0 (point_at points v)) q.2) (s q.0 q.1);
       no_point = λ k s t h some m.
           let q = some_below (length (corners points r)) (λ i. is_nonpos (left_of (corners points r) i (first_point points (edge_at edges k))) && is_nonpos (left_of (corners points r) i (last_point points (edge_at edges k)))) (below (length edges) (λ e. any_below (length (corners points r)) (λ i. is_nonpos (left_of (corners points r) i (first_point points (edge_at edges e))) && is_nonpos (left_of (corners points r) i (last_point points (edge_at edges e))))) e.1 k h) in
-          let x = both (is_nonpos (left_of (corners points r) q.0 (first_point points (edge_at edges k)))) (is_nonpos (left_of (corners points r) q.0 (last_point points (edge_at edges k)))) q.2 in
+          let x = both_of (is_nonpos (left_of (corners points r) q.0 (first_point points (edge_at edges k)))) (is_nonpos (left_of (corners points r) q.0 (last_point points (edge_at edges k)))) q.2 in
           mixed_out s t (left_of (corners points r) q.0 (first_point points (edge_at edges k))) (left_of (corners points r) q.0 (last_point points (edge_at edges k))) (nonpos _ x.0) (nonpos _ x.1) (m q.0 q.1);
     } where
       same : (a b : ℕ) → a ≡ b → (a == b) ≡ true
-      same a b e = rw e (equal_itself b)
+      same a b e = rw e (same_number b)
 
--- ---- what holds along each edge, in both directions
+-- ---- what holds along each edge, in both_of directions
 
 abbrev pub both_ways : (ℕ → ℕ → Bool) → List EdgeEnds → Bool
 both_ways p [] = true
 both_ways p (e ∷ edges) = (p e.a e.b && p e.b e.a) && both_ways p edges
 
 pub joins_is : (e : EdgeEnds) (u v : ℕ) → IsTrue (joins u v e) → ((e.a ≡ u) × (e.b ≡ v)) ⊎ ((e.a ≡ v) × (e.b ≡ u))
-joins_is e u v t = elim (either (e.a == u && e.b == v) (e.a == v && e.b == u) t) [
-  | inl h ↦ let b = both (e.a == u) (e.b == v) h in inl (eqb-true _ _ b.0, eqb-true _ _ b.1)
-  | inr h ↦ let b = both (e.a == v) (e.b == u) h in inr (eqb-true _ _ b.0, eqb-true _ _ b.1)
+joins_is e u v t = elim (either_of (e.a == u && e.b == v) (e.a == v && e.b == u) t) [
+  | inl h ↦ let b = both_of (e.a == u) (e.b == v) h in inl (eqb-true _ _ b.0, eqb-true _ _ b.1)
+  | inr h ↦ let b = both_of (e.a == v) (e.b == u) h in inr (eqb-true _ _ b.0, eqb-true _ _ b.1)
 ]
 
 at_ends : (p : ℕ → ℕ → Bool) (a b u v : ℕ) → a ≡ u → b ≡ v → IsTrue (p a b) → IsTrue (p u v)
@@ -117,9 +119,9 @@ at_ends p a b u v e f t = subst (λ x. IsTrue (p x v)) e (subst (λ y. IsTrue (p
 pub along : (p : ℕ → ℕ → Bool) (edges : List EdgeEnds) (u v : ℕ) → IsTrue (both_ways p edges) → IsTrue (joined edges u v) → IsTrue (p u v)
 along p [] u v t j = absurd (false≢true j)
 along p (e ∷ edges) u v t j =
-    let b = both (p e.a e.b && p e.b e.a) (both_ways p edges) t in
-    let c = both (p e.a e.b) (p e.b e.a) b.0 in
-    elim (either (joins u v e) (joined edges u v) j) [
+    let b = both_of (p e.a e.b && p e.b e.a) (both_ways p edges) t in
+    let c = both_of (p e.a e.b) (p e.b e.a) b.0 in
+    elim (either_of (joins u v e) (joined edges u v) j) [
       | inl h ↦ elim (joins_is e u v h) [ inl x ↦ at_ends p e.a e.b u v x.0 x.1 c.0 | inr x ↦ at_ends p e.b e.a u v x.1 x.0 c.1 ]
       | inr h ↦ along p edges u v b.1 h
     ]
@@ -140,10 +142,10 @@ reaches (suc n) rings f g = (f == g) || any_below (length rings) (λ h. shares r
 
 reached : (n : ℕ) (rings : List (List ℕ)) (f g : ℕ) → IsTrue (reaches n rings f g) → AreChained rings f g
 reached zero rings f g t = ([], eqb-true f g t)
-reached (suc n) rings f g t = elim (either (f == g) (any_below (length rings) (λ h. shares rings f h && reaches n rings h g)) t) [
+reached (suc n) rings f g t = elim (either_of (f == g) (any_below (length rings) (λ h. shares rings f h && reaches n rings h g)) t) [
   | inl e ↦ ([], eqb-true f g e)
   | inr s ↦ let r = some_below (length rings) (λ h. shares rings f h && reaches n rings h g) s in
-      let b = both (shares rings f r.0) (reaches n rings r.0 g) r.2 in
+      let b = both_of (shares rings f r.0) (reaches n rings r.0 g) r.2 in
       let rest = reached n rings r.0 g b.1 in (r.0 ∷ rest.0, (r.1, share rings f r.0 b.0, rest.1))
 ]
 
@@ -154,11 +156,11 @@ leaves_once rings edges = both_ways (λ u v. belongs rings u v || both_ways (λ 
 
 leaves : (rings : List (List ℕ)) (edges : List EdgeEnds) → IsTrue (leaves_once rings edges) → (u v w : ℕ) → IsOuter edges rings u v → IsOuter edges rings u w → v ≡ w
 leaves rings edges t u v w a b =
-    elim (either (belongs rings u v) (both_ways (λ y x. belongs rings y x || (not (u == y) || (v == x))) edges) (along (λ u v. belongs rings u v || both_ways (λ w x. belongs rings w x || (not (u == w) || (v == x))) edges) edges u v t a.edge)) [
+    elim (either_of (belongs rings u v) (both_ways (λ y x. belongs rings y x || (not (u == y) || (v == x))) edges) (along (λ u v. belongs rings u v || both_ways (λ w x. belongs rings w x || (not (u == w) || (v == x))) edges) edges u v t a.edge)) [
       | inl h ↦ absurd (a.none (belongs_so rings u v h))
-      | inr h ↦ elim (either (belongs rings u w) (not (u == u) || (v == w)) (along (λ y x. belongs rings y x || (not (u == y) || (v == x))) edges u w h b.edge)) [
+      | inr h ↦ elim (either_of (belongs rings u w) (not (u == u) || (v == w)) (along (λ y x. belongs rings y x || (not (u == y) || (v == x))) edges u w h b.edge)) [
         | inl k ↦ absurd (b.none (belongs_so rings u w k))
-        | inr k ↦ elim (either (not (u == u)) (v == w) k) [ inl n ↦ absurd (false≢true (subst (λ z. IsTrue (not z)) (equal_itself u) n)) | inr e ↦ eqb-true v w e ]
+        | inr k ↦ elim (either_of (not (u == u)) (v == w) k) [ inl n ↦ absurd (false≢true (subst (λ z. IsTrue (not z)) (same_number u) n)) | inr e ↦ eqb-true v w e ]
       ]
     ]
 
@@ -169,7 +171,7 @@ abbrev pub sweeps_back : List Pt → List (List ℕ) → List EdgeEnds → Bool
 sweeps_back points rings edges = both_ways (λ u v. belongs rings u v || is_nonpos (cross (point_at points u) (point_at points v))) edges
 
 outer_sweeps : (points : List Pt) (rings : List (List ℕ)) (edges : List EdgeEnds) → IsTrue (sweeps_back points rings edges) → (u v : ℕ) → IsOuter edges rings u v → sweep points u v ≤ℤ pos 0
-outer_sweeps points rings edges t u v o = elim (either (belongs rings u v) _ (along (λ u v. belongs rings u v || is_nonpos (cross (point_at points u) (point_at points v))) edges u v t o.edge)) [
+outer_sweeps points rings edges t u v o = elim (either_of (belongs rings u v) _ (along (λ u v. belongs rings u v || is_nonpos (cross (point_at points u) (point_at points v))) edges u v t o.edge)) [
   | inl h ↦ absurd (o.none (belongs_so rings u v h))
   | inr h ↦ nonpos _ h
 ]
@@ -205,12 +207,12 @@ fits_mark rings e B = (belongs rings e.a e.b && not (belongs rings e.b e.a)) || 
 fits_mark rings e _ = belongs rings e.a e.b && belongs rings e.b e.a
 
 both_sides : (rings : List (List ℕ)) (e : EdgeEnds) → IsTrue (belongs rings e.a e.b && belongs rings e.b e.a) → Belongs rings e.a e.b × Belongs rings e.b e.a
-both_sides rings e t = let b = both (belongs rings e.a e.b) (belongs rings e.b e.a) t in (belongs_so rings e.a e.b b.0, belongs_so rings e.b e.a b.1)
+both_sides rings e t = let b = both_of (belongs rings e.a e.b) (belongs rings e.b e.a) t in (belongs_so rings e.a e.b b.0, belongs_so rings e.b e.a b.1)
 
 fit : (rings : List (List ℕ)) (e : EdgeEnds) (m : Mark) → IsTrue (fits_mark rings e m) → FitsMark rings e m
-fit rings e B t = elim (either (belongs rings e.a e.b && not (belongs rings e.b e.a)) (not (belongs rings e.a e.b) && belongs rings e.b e.a) t) [
-  | inl h ↦ let b = both (belongs rings e.a e.b) (not (belongs rings e.b e.a)) h in inl (belongs_so rings e.a e.b b.0, not_belongs rings e.b e.a b.1)
-  | inr h ↦ let b = both (not (belongs rings e.a e.b)) (belongs rings e.b e.a) h in inr (not_belongs rings e.a e.b b.0, belongs_so rings e.b e.a b.1)
+fit rings e B t = elim (either_of (belongs rings e.a e.b && not (belongs rings e.b e.a)) (not (belongs rings e.a e.b) && belongs rings e.b e.a) t) [
+  | inl h ↦ let b = both_of (belongs rings e.a e.b) (not (belongs rings e.b e.a)) h in inl (belongs_so rings e.a e.b b.0, not_belongs rings e.b e.a b.1)
+  | inr h ↦ let b = both_of (not (belongs rings e.a e.b)) (belongs rings e.b e.a) h in inr (not_belongs rings e.a e.b b.0, belongs_so rings e.b e.a b.1)
 ]
 fit rings e M t = both_sides rings e t
 fit rings e V t = both_sides rings e t
@@ -222,7 +224,7 @@ is_face_of rings u v (Some f) = nat_lt f (length rings) && goes (ring_at rings f
 is_face_of rings u v None = not (belongs rings u v)
 
 face_of : (rings : List (List ℕ)) (u v : ℕ) (f : Option ℕ) → IsTrue (is_face_of rings u v f) → IsFaceOf rings u v f
-face_of rings u v (Some f) t = let b = both (nat_lt f (length rings)) (goes (ring_at rings f) u v) t in (ltb-true _ _ b.0, goes_so (ring_at rings f) u v b.1)
+face_of rings u v (Some f) t = let b = both_of (nat_lt f (length rings)) (goes (ring_at rings f) u v) t in (ltb-true _ _ b.0, goes_so (ring_at rings f) u v b.1)
 face_of rings u v None t = not_belongs rings u v t
 
 -- ---- all together
@@ -237,7 +239,7 @@ are_rings points edges marks rings = all_below (length rings) (λ f. is_ring poi
     && all_below (length rings) (λ g. all_below g (λ f. list_before (ring_at rings f) (ring_at rings g)))))))))
 
 one : (rings : List (List ℕ)) (f g u v : ℕ) → IsTrue ((f == g) || all_below (length (ring_at rings f)) (λ i. not (goes (ring_at rings g) (corner (ring_at rings f) i) (after (ring_at rings f) i)))) → Goes (ring_at rings f) u v → Goes (ring_at rings g) u v → f ≡ g
-one rings f g u v t a b = elim (either (f == g) (all_below (length (ring_at rings f)) (λ i. not (goes (ring_at rings g) (corner (ring_at rings f) i) (after (ring_at rings f) i)))) t) [
+one rings f g u v t a b = elim (either_of (f == g) (all_below (length (ring_at rings f)) (λ i. not (goes (ring_at rings g) (corner (ring_at rings f) i) (after (ring_at rings f) i)))) t) [
   | inl e ↦ eqb-true f g e
   | inr h ↦ absurd (false≢true (subst (λ z. IsTrue (not z)) (so_goes (ring_at rings g) _ _ there) (below (length (ring_at rings f)) (λ i. not (goes (ring_at rings g) (corner (ring_at rings f) i) (after (ring_at rings f) i))) h a.place a.inside)))
 ] where
@@ -246,13 +248,13 @@ one rings f g u v t a b = elim (either (f == g) (all_below (length (ring_at ring
 
 pub rings_are : (points : List Pt) (edges : List EdgeEnds) (marks : List Mark) (rings : List (List ℕ)) → IsTrue (are_rings points edges marks rings) → AreRings points edges (Some marks) rings
 rings_are points edges marks rings t =
-    let a = both _ _ t in
-    let b = both _ _ a.1 in
-    let c = both _ _ b.1 in
-    let d = both _ _ c.1 in
-    let e = both _ _ d.1 in
-    let f = both _ _ e.1 in
-    let g = both _ _ f.1 in
+    let a = both_of _ _ t in
+    let b = both_of _ _ a.1 in
+    let c = both_of _ _ b.1 in
+    let d = both_of _ _ c.1 in
+    let e = both_of _ _ d.1 in
+    let f = both_of _ _ e.1 in
+    let g = both_of _ _ f.1 in
     record {
       each = λ k h. ring points edges (ring_at rings k) (below (length rings) (λ f. is_ring points edges (ring_at rings f)) a.0 k h);
       one = λ k l u v h m x y. one rings k l u v (below_two (length rings) (length rings) (λ f g. (f == g) || all_below (length (ring_at rings f)) (λ i. not (goes (ring_at rings g) (corner (ring_at rings f) i) (after (ring_at rings f) i)))) b.0 k l h m) x y;
@@ -270,13 +272,13 @@ are_faces points edges marks rings sides = are_rings points edges marks rings &&
 
 pub faces_are : (points : List Pt) (edges : List EdgeEnds) (marks : List Mark) (rings : List (List ℕ)) (sides : List EdgeSides) → IsTrue (are_faces points edges marks rings sides) → AreFaces points edges (Some marks) rings sides marks
 faces_are points edges marks rings sides t =
-    let a = both _ _ t in
-    let b = both _ _ a.1 in
-    let c = both _ _ b.1 in
+    let a = both_of _ _ t in
+    let b = both_of _ _ a.1 in
+    let c = both_of _ _ b.1 in
     record {
       rings_are = rings_are points edges marks rings a.0;
       as_many_sides = eqb-true _ _ b.0;
-      sides_are = λ k h. let x = both (is_face_of rings (edge_at edges k).a (edge_at edges k).b (sides_at sides k).left) (is_face_of rings (edge_at edges k).b (edge_at edges k).a (sides_at sides k).right) (below (length edges) (λ e. is_face_of rings (edge_at edges e).a (edge_at edges e).b (sides_at sides e).left && is_face_of rings (edge_at edges e).b (edge_at edges e).a (sides_at sides e).right) c.1 k h) in
+      sides_are = λ k h. let x = both_of (is_face_of rings (edge_at edges k).a (edge_at edges k).b (sides_at sides k).left) (is_face_of rings (edge_at edges k).b (edge_at edges k).a (sides_at sides k).right) (below (length edges) (λ e. is_face_of rings (edge_at edges e).a (edge_at edges e).b (sides_at sides e).left && is_face_of rings (edge_at edges e).b (edge_at edges e).a (sides_at sides e).right) c.1 k h) in
           record { left = face_of rings _ _ (sides_at sides k).left x.0; right = face_of rings _ _ (sides_at sides k).right x.1 };
       as_many_marks = eqb-true _ _ c.0;
       marks_are = λ k h. refl;

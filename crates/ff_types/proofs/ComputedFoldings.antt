@@ -4,6 +4,7 @@ use Rattle.std.specs.Ordering.{int_eq}
 use Rattle.std.proofs.lemmas.Int.{ints}
 use Rattle.std.proofs.lemmas.Bool.{false≢true, eqb-true}
 use Rattle.std.proofs.lemmas.Bool.Decides.{Decides-int_eq}
+use Rattle.ff_basics.proofs.Tests.{both_of}
 use Rattle.ff_whole.specs.declared.points.Pt.{Pt}
 use Rattle.ff_whole.specs.Points.{turn}
 use Rattle.ff_whole.specs.Convex.{point_at}
@@ -14,13 +15,13 @@ use Rattle.ff_types.specs.Rings.{corner, corners}
 use Rattle.ff_types.specs.Faces.{ring_at, mark_at}
 use Rattle.ff_types.specs.Sides.{sides_at}
 use Rattle.ff_types.specs.Foldings.{IsFolding, RingKeepsShape, DividesAll, FitFlags, is_up, signed, scaled, spread}
-use Rattle.ff_types.proofs.Computing.{all_below, below, below_two, both, is_pos, positive, same_point}
+use Rattle.ff_types.proofs.Computing.{all_below, below, below_two, is_pos, positive, same_point}
 
 equal : (a b : ℤ) → IsTrue (int_eq a b) → a ≡ b
 equal a b t = (Decides-int_eq a b).0 t
 
 equal_points : (p q : Pt) → IsTrue (same_point p q) → p ≡ q
-equal_points p q t = let b = both (int_eq p.x q.x) (int_eq p.y q.y) t in points p.x p.y q.x q.y (equal _ _ b.0) (equal _ _ b.1) where
+equal_points p q t = let b = both_of (int_eq p.x q.x) (int_eq p.y q.y) t in points p.x p.y q.x q.y (equal _ _ b.0) (equal _ _ b.1) where
   points : (a b c d : ℤ) → a ≡ c → b ≡ d → ◌≡◌ {A = Pt} (record { x = a; y = b }) (record { x = c; y = d })
   points a b c d e f = ap (λ x. record { x = x; y = b }) e ∙ ap (λ y. record { x = c; y = y }) f
 
@@ -34,7 +35,7 @@ ring_keeps scale up ring image = all_below (length ring) (λ i. all_below (lengt
 kept : (scale : ℤ) (up : Bool) (ring image : List Pt) → IsTrue (ring_keeps scale up ring image) → RingKeepsShape scale up ring image
 kept scale up ring image t i j k h l m =
     let a = below_two (length ring) (length ring) (λ i j. all_below (length ring) (λ k. keeps_shape scale up (point_at ring i) (point_at ring j) (point_at ring k) (point_at image i) (point_at image j) (point_at image k))) t i j h l in
-    let b = both _ _ (below (length ring) (λ k. keeps_shape scale up (point_at ring i) (point_at ring j) (point_at ring k) (point_at image i) (point_at image j) (point_at image k)) a k m) in
+    let b = both_of _ _ (below (length ring) (λ k. keeps_shape scale up (point_at ring i) (point_at ring j) (point_at ring k) (point_at image i) (point_at image j) (point_at image k)) a k m) in
     record { dots = equal _ _ b.0; crosses = equal _ _ b.1 }
 
 abbrev pub like : Bool → Bool → Bool
@@ -81,12 +82,12 @@ is_folding points rings sides marks scale images up = is_pos scale && ((length i
 pub folding : (points : List Pt) (rings : List (List ℕ)) (sides : List EdgeSides) (marks : List Mark) (scale : ℤ) (images : List Pt) (up : List Bool)
     → IsTrue (is_folding points rings sides marks scale images up) → ((d : ℕ) → 1 < d → DividesAll d scale images → ⊥) → IsFolding points rings sides marks scale images up
 folding points rings sides marks scale images up t least =
-    let a = both _ _ t in
-    let b = both _ _ a.1 in
-    let c = both _ _ b.1 in
-    let d = both _ _ c.1 in
-    let e = both _ _ d.1 in
-    let f = both _ _ e.1 in
+    let a = both_of _ _ t in
+    let b = both_of _ _ a.1 in
+    let c = both_of _ _ b.1 in
+    let d = both_of _ _ c.1 in
+    let e = both_of _ _ d.1 in
+    let f = both_of _ _ e.1 in
     record {
       positive = let h = positive scale a.0 in omega (arith, ints);
       as_many_points = eqb-true _ _ b.0;

@@ -5,21 +5,12 @@ use Rattle.std.specs.Ordering.{int_eq}
 use Rattle.std.proofs.lemmas.Int.{ints}
 use Rattle.std.proofs.lemmas.Bool.{false≢true, eqb-true, eqb-false, ltb-true}
 use Rattle.std.proofs.lemmas.Bool.Decides.{Decides-int_eq}
+use Rattle.ff_basics.proofs.Tests.{both_of, either_of}
+use Rattle.ff_basics.proofs.Numbers.{same_number}
 use Rattle.ff_whole.specs.declared.points.Pt.{Pt}
 use Rattle.ff_whole.specs.Convex.{point_at, left_of, IsConvex, AreApart}
 
 -- ---- bounded numbers
-
-pub both : (b c : Bool) → IsTrue (b && c) → IsTrue b × IsTrue c
-both true c e = (refl, e)
-both false c e = absurd (false≢true e)
-
-pub either : (b c : Bool) → IsTrue (b || c) → IsTrue b ⊎ IsTrue c
-either true c e = inl refl
-either false c e = inr e
-
-pub equal_itself : (n : ℕ) → (n == n) ≡ true
-equal_itself n = search rules
 
 abbrev pub all_below : ℕ → (ℕ → Bool) → Bool
 all_below zero p = true
@@ -31,16 +22,16 @@ any_below (suc n) p = p n || any_below n p
 
 pub below : (n : ℕ) (p : ℕ → Bool) → IsTrue (all_below n p) → (i : ℕ) → i < n → IsTrue (p i)
 below zero p e i h = absurd (omega (arith, h))
-below (suc n) p e i h = by (i == n) refl (below n p (both (p n) (all_below n p) e).1 i) where
+below (suc n) p e i h = by (i == n) refl (below n p (both_of (p n) (all_below n p) e).1 i) where
   by : (b : Bool) → (i == n) ≡ b → (i < n → IsTrue (p i)) → IsTrue (p i)
-  by true f g = subst (λ k. IsTrue (p k)) (sym (eqb-true i n f)) (both (p n) (all_below n p) e).0
+  by true f g = subst (λ k. IsTrue (p k)) (sym (eqb-true i n f)) (both_of (p n) (all_below n p) e).0
   by false f g = g (less (eqb-false i n f)) where
     less : i ≢ n → i < n
     less d = grind (arith, h, d)
 
 pub some_below : (n : ℕ) (p : ℕ → Bool) → IsTrue (any_below n p) → (i : ℕ) × (i < n) × IsTrue (p i)
 some_below zero p e = absurd (false≢true e)
-some_below (suc n) p e = elim (either (p n) (any_below n p) e) [
+some_below (suc n) p e = elim (either_of (p n) (any_below n p) e) [
   | inl h ↦ (n, omega arith, h)
   | inr h ↦ let r = some_below n p h in (r.0, omega (arith, r.1), r.2)
 ]
@@ -98,7 +89,7 @@ are_apart points = all_below (length points) (λ i. all_below (length points) (�
 pub apart : (points : List Pt) → IsTrue (are_apart points) → AreApart points
 apart points t = record { differ = differ } where
   differ : (i j : ℕ) → i < length points → j < length points → point_at points i ≡ point_at points j → i ≡ j
-  differ i j h l e = by (either _ _ (below_two (length points) (length points) (λ i j. not (same_point (point_at points i) (point_at points j)) || (i == j)) t i j h l)) where
+  differ i j h l e = by (either_of _ _ (below_two (length points) (length points) (λ i j. not (same_point (point_at points i) (point_at points j)) || (i == j)) t i j h l)) where
     by : IsTrue (not (same_point (point_at points i) (point_at points j))) ⊎ IsTrue (i == j) → i ≡ j
     by (inl x) = absurd (false≢true (subst (λ b. IsTrue (not b)) (points_equal _ _ e) x))
     by (inr x) = eqb-true i j x
@@ -110,10 +101,10 @@ is_convex points = nat_lt 0 (length points) && (all_below (length points) (λ i.
 pub convex : (points : List Pt) → IsTrue (is_convex points) → IsConvex points
 convex points t = record { some = ltb-true 0 (length points) a.0; left = left; wide = wide } where
   a : IsTrue (nat_lt 0 (length points)) × IsTrue (all_below (length points) (λ i. all_below (length points) (λ j. is_nonneg (left_of points i (point_at points j)))) && all_below (length points) (λ i. any_below (length points) (λ j. is_pos (left_of points i (point_at points j)))))
-  a = both _ _ t
+  a = both_of _ _ t
 
   b : IsTrue (all_below (length points) (λ i. all_below (length points) (λ j. is_nonneg (left_of points i (point_at points j))))) × IsTrue (all_below (length points) (λ i. any_below (length points) (λ j. is_pos (left_of points i (point_at points j)))))
-  b = both _ _ a.1
+  b = both_of _ _ a.1
 
   left : (i j : ℕ) → i < length points → j < length points → pos 0 ≤ℤ left_of points i (point_at points j)
   left i j h l = nonneg _ (below_two (length points) (length points) (λ i j. is_nonneg (left_of points i (point_at points j))) b.0 i j h l)

@@ -6,6 +6,7 @@ use Rattle.std.proofs.lemmas.Bool.{cases_lt, lt-ltb}
 use Rattle.std.proofs.lemmas.Bool.Decides.{nat_tests}
 use Rattle.std.proofs.lemmas.List.{length-map}
 use Rattle.std.proofs.lemmas.List.FromFn.{get_or-range_with_len, length-range_with_len}
+use Rattle.ff_basics.proofs.Numbers.{same_number}
 use Rattle.ff_whole.specs.declared.points.Pt.{Pt}
 use Rattle.ff_whole.specs.Points.{turn, IsNear}
 use Rattle.ff_whole.specs.Convex.{next, point_at, left_of, AreApart, IsConvex}
@@ -20,7 +21,6 @@ use Rattle.ff_types.specs.Drawings.{joins, joined, first_point, last_point}
 use Rattle.ff_types.specs.Rings.{corner, after, corners, Goes, IsRing, IsStrictlyIn, IsMixStrictlyIn}
 use Rattle.ff_types.specs.Areas.{area}
 use Rattle.ff_types.specs.Faces.{ring_at, mark_at, Belongs, IsOuter, IsOuterWalk, FitsMark, AreRings, AreChained, list_before}
-use Rattle.ff_types.proofs.Computing.{equal_itself}
 use Rattle.ff_types.proofs.ComputedFaces.{joins_is}
 use Rattle.ff_types.proofs.ConvexEdges.{turn-last, turn_cycled, turn_swapped}
 use Rattle.ff_types.proofs.SubRings.{Rises, corner_point, sub_convex}
@@ -131,7 +131,7 @@ before_second (x ∷ y ∷ p) [] h l e m = absurd (omega (arith, l))
 before_second (x ∷ y ∷ p) (z ∷ []) h l e m = absurd (omega (arith, l))
 before_second (x ∷ y ∷ p) (z ∷ w ∷ q) h l e m = by (nat_lt x z) where
   rest : IsTrue ((x == z) && (nat_lt y w || ((y == w) && list_before p q)))
-  rest = rw (e, equal_itself z, lt-ltb y w m) refl
+  rest = rw (e, same_number z, lt-ltb y w m) refl
 
   by : (b : Bool) → IsTrue (b || ((x == z) && (nat_lt y w || ((y == w) && list_before p q))))
   by true = refl
@@ -160,7 +160,7 @@ joins_turned : (a b : ℕ) → IsTrue (joins b a (record { a = a; b = b }))
 joins_turned a b = by (a == b && b == a) where
   by : (t : Bool) → IsTrue (t || (a == a && b == b))
   by true = refl
-  by false = rw (equal_itself a, equal_itself b) refl
+  by false = rw (same_number a, same_number b) refl
 
 not_border : (rings : List (List ℕ)) (e : EdgeEnds) (m : Mark) → m ≢ B → Belongs rings e.a e.b → Belongs rings e.b e.a → FitsMark rings e m
 not_border rings e B n x y = absurd (n refl)

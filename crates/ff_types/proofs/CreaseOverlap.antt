@@ -5,6 +5,7 @@ use Rattle.std.proofs.lemmas.List.{length-map}
 use Rattle.std.specs.Prelude.{neg_ℤ}
 use lib.IntN.{*ℤ-zero}
 use Rattle.std.proofs.lemmas.Int.{ints, by_lt_z}
+use Rattle.ff_basics.proofs.Tests.{both_of}
 use Rattle.ff_whole.specs.declared.points.Pt.{Pt}
 use Rattle.ff_whole.specs.declared.places.Place.{Place}
 use Rattle.ff_whole.specs.Points.{turn}
@@ -25,7 +26,6 @@ use Rattle.ff_types.specs.OneCrease.{inner, outer}
 use Rattle.ff_types.proofs.CutRings.{inner_goes, inner_closes, inner_steps, outer_crosses, outer_steps}
 use Rattle.ff_types.proofs.OneCrease.{IsChord}
 use Rattle.ff_types.proofs.FoldedOverlap.{Good, overlap_near, inside_step}
-use Rattle.ff_types.proofs.Computing.{both}
 
 height_point : (p q r : Pt) → height (through p q) (place_of r) ≡ turn p q r
 height_point p q r = solve (p.x ∷ p.y ∷ q.x ∷ q.y ∷ r.x ∷ r.y ∷ [])
@@ -101,7 +101,7 @@ module _ (points images : List Pt) (scale : ℤ) where
           sum : {a b c d : ℤ} → a ≡ c → b ≡ d → a +ℤ b ≡ c +ℤ d
           sum {a} {b} {c} {d} e f = ap (λ z. z +ℤ b) e ∙ ap (λ z. c +ℤ z) f
 
--- a sum of two numbers that aren't negative and aren't both 0, times a square
+-- a sum of two numbers that aren't negative and aren't both_of 0, times a square
 deep : (s a b : ℤ) → pos 1 ≤ℤ s → pos 0 ≤ℤ a → pos 0 ≤ℤ b → (a ≡ pos 0 → b ≡ pos 0 → ⊥) → pos 0 <ℤ ((s *ℤ s) *ℤ a +ℤ (s *ℤ s) *ℤ b)
 deep s a b h k l n =
     let q = pos-mul s s (omega (arith, ints, h)) (omega (arith, ints, h)) in
@@ -206,11 +206,11 @@ module _ (points : List Pt) (ring : IsConvex points) (i j : ℕ) (chord : IsChor
 
 -- The two faces of a sheet with one flat crease don't overlap: they lie on the two sides of it.
 pub flat_crease_apart : (n i j : ℕ) → i + 1 < j → j < n → (g : Sheet) (f h : ℕ) → ring_at g.rings f ≡ inner i j → ring_at g.rings h ≡ outer n i j → lies_up g h ≡ lies_up g f → Overlap g f h → ⊥
-flat_crease_apart n i j far low g f h fr hr same o = by o.common.at (both (is_inside g f o.common.at) _ o.common.inside) where
+flat_crease_apart n i j far low g f h fr hr same o = by o.common.at (both_of (is_inside g f o.common.at) _ o.common.inside) where
   by : (s : Place) → IsTrue (is_inside g f s) × IsTrue (is_inside g h s && true) → ⊥
   by s t =
       let a = inside_step g f s j i t.0 (subst (λ r. Goes r j i) (sym fr) (inner_closes n i j far low)) in
-      let b = inside_step g h s i j (both (is_inside g h s) true t.1).0 (subst (λ r. Goes r i j) (sym hr) (outer_crosses n i j far low)) in
+      let b = inside_step g h s i j (both_of (is_inside g h s) true t.1).0 (subst (λ r. Goes r i j) (sym hr) (outer_crosses n i j far low)) in
       opposite (lies_up g f) (lies_up g h) (height (through (point_at g.images j) (point_at g.images i)) s) (height (through (point_at g.images i) (point_at g.images j)) s) same (turned (point_at g.images i) (point_at g.images j) s) a b where
         turned : (p q : Pt) (s : Place) → height (through q p) s ≡ neg_ℤ (height (through p q) s)
         turned p q s = solve (p.x ∷ p.y ∷ q.x ∷ q.y ∷ s.x ∷ s.y ∷ s.w ∷ [])

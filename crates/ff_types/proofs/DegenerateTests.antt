@@ -3,6 +3,7 @@
 use Rattle.std.proofs.Common.{◌≡◌, ℕ, ◌<◌, ℤ, pos, Bool, true, false, not, ◌&&◌, List, [], ◌∷◌, refl, sym, Some, None, arith, lit<, IsTrue}
 use Rattle.std.proofs.lemmas.Int.{ints}
 use Rattle.std.proofs.lemmas.Bool.{false≢true}
+use Rattle.ff_basics.proofs.Tests.{both_of}
 use Rattle.ff_whole.specs.declared.points.Pt.{Pt}
 use Rattle.ff_whole.specs.declared.places.Place.{Place}
 use Rattle.ff_types.specs.declared.patterns.Mark.TheVariants.{B, M, V}
@@ -23,7 +24,6 @@ use Rattle.ff_types.proofs.ComputedDrawings.{drawing}
 use Rattle.ff_types.proofs.ComputedFaces.{faces_are}
 use Rattle.ff_types.proofs.ComputedFoldings.{folding, least_one}
 use Rattle.ff_types.proofs.FewFaces.{overlap_second, inside_face}
-use Rattle.ff_types.proofs.Computing.{both}
 
 abbrev at : ℤ → ℤ → ℤ → Place
 at x y w = record { x = x; y = y; w = w }
@@ -87,7 +87,7 @@ halves_overlap = record { differ = λ e. absurd (omega (arith, e)); common = rec
 halves_chords : (chords halves 4 (at (pos 1) (pos 1) (pos 2)) ≡ (Right 1, Right 0) ∷ []) × (chords halves 5 (at (pos 3) (pos 3) (pos 2)) ≡ (Left 0, Left 1) ∷ [])
 halves_chords = (refl, refl)
 
--- no stacking keeps both halves
+-- no stacking keeps both_of halves
 halves_none : (above : ℕ → ℕ → Bool) → IsGeometricStacking halves above → KeepsCreases halves above → ⊥
 halves_none above s k = back (above 1 0) (above 0 1) (s.stacking.orders.one 1 0 turned) (k 4 (lit< tt)) (k 5 (lit< tt)) where
   turned : Overlap halves 1 0
@@ -117,7 +117,7 @@ no_face : (f : ℕ) (s : Place) → 1 < f → IsTrue (is_inside unit f s) → �
 no_face f s h t = omega (arith, h, inside_face unit f s t)
 
 no_transitivity : Holds unit (Transitivity 0 1 2 []) → ⊥
-no_transitivity (a, b, c) = no_face 2 c.at (lit< tt) (both (is_inside unit 2 c.at) true (both (is_inside unit 1 c.at) (is_inside unit 2 c.at && true) (both (is_inside unit 0 c.at) (is_inside unit 1 c.at && (is_inside unit 2 c.at && true)) c.inside).1).1).0
+no_transitivity (a, b, c) = no_face 2 c.at (lit< tt) (both_of (is_inside unit 2 c.at) true (both_of (is_inside unit 1 c.at) (is_inside unit 2 c.at && true) (both_of (is_inside unit 0 c.at) (is_inside unit 1 c.at && (is_inside unit 2 c.at && true)) c.inside).1).1).0
 
 no_overlap : Overlap unit 0 7 → ⊥
 no_overlap o = absurd (omega (arith, overlap_second unit 0 7 o))

@@ -3,12 +3,13 @@
 use Rattle.std.proofs.Common.{◌≡◌, ℕ, zero, suc, ◌<◌, ◌==◌, ◌⊎◌, inl, inr, Bool, true, false, not, ◌&&◌, List, [], ◌∷◌, length, refl, sym, ◌∙◌, ap, subst, arith, lit<, IsTrue, cond}
 use Rattle.std.specs.List.{Contains, AllPairs, filter, range_with_len}
 use Rattle.std.proofs.lemmas.Bool.{false≢true, ltb-true, eqb-true}
+use Rattle.ff_basics.proofs.Numbers.{same_number}
+use Rattle.ff_basics.proofs.Tests.{both_of, not_true}
 use Rattle.ff_whole.specs.declared.places.Place.{Place}
 use Rattle.ff_types.specs.Sheets.{Sheet, is_face}
 use Rattle.ff_types.specs.Inside.{is_inside, Overlap}
 use Rattle.ff_types.specs.Stackings.{OrdersOverlaps, IsStacking, CanBeListed}
 use Rattle.ff_types.specs.Crossings.{IsGeometricStacking}
-use Rattle.ff_types.proofs.Computing.{both, equal_itself}
 use Rattle.ff_types.specs.PlainSheets.{no_pairs}
 use Rattle.ff_types.specs.OneCrease.{one_pair}
 use Rattle.ff_types.proofs.TwoFaces.{two_faces_geometric}
@@ -16,13 +17,13 @@ use Rattle.ff_types.proofs.TwoFaces.{two_faces_geometric}
 -- ---- overlapping faces are faces
 
 pub inside_face : (g : Sheet) (f : ℕ) (s : Place) → IsTrue (is_inside g f s) → f < length g.rings
-inside_face g f s t = ltb-true f (length g.rings) (both (is_face g f) _ t).0
+inside_face g f s t = ltb-true f (length g.rings) (both_of (is_face g f) _ t).0
 
 pub overlap_first : (g : Sheet) (f h : ℕ) → Overlap g f h → f < length g.rings
-overlap_first g f h o = inside_face g f o.common.at (both (is_inside g f o.common.at) _ o.common.inside).0
+overlap_first g f h o = inside_face g f o.common.at (both_of (is_inside g f o.common.at) _ o.common.inside).0
 
 pub overlap_second : (g : Sheet) (f h : ℕ) → Overlap g f h → h < length g.rings
-overlap_second g f h o = inside_face g h o.common.at (both (is_inside g h o.common.at) _ (both (is_inside g f o.common.at) _ o.common.inside).1).0
+overlap_second g f h o = inside_face g h o.common.at (both_of (is_inside g h o.common.at) _ (both_of (is_inside g f o.common.at) _ o.common.inside).1).0
 
 pub overlap_turned : (g : Sheet) (f h : ℕ) → Overlap g f h → Overlap g h f
 overlap_turned g f h o = record { differ = λ e. o.differ (sym e); common = record { at = o.common.at; place = o.common.place; inside = turned (is_inside g f o.common.at) (is_inside g h o.common.at) o.common.inside } } where
@@ -80,10 +81,6 @@ one_face_stacks g one = two_faces_geometric g no_pairs (omega (arith, one)) (rec
   right = λ e s p. one_listed (length g.rings) _ one;
 })
 
-not_true : (b : Bool) → (IsTrue b → ⊥) → b ≡ false
-not_true true f = absurd (f refl)
-not_true false f = refl
-
 -- Where no two faces overlap, a stacking is the empty set.
 pub no_overlap_empty : (g : Sheet) (above : ℕ → ℕ → Bool) → ((f h : ℕ) → Overlap g f h → ⊥) → OrdersOverlaps g above → (f h : ℕ) → above f h ≡ false
 no_overlap_empty g above none o f h = not_true (above f h) (λ t. none f h (o.only f h t))
@@ -128,7 +125,7 @@ which_two g f h two o = by f h (overlap_first g f h o) (overlap_second g f h o) 
   by (suc (suc f)) h a b d = absurd (omega (arith, two, a))
 
 the_pair : (x y f h : ℕ) → IsTrue (one_pair x y f h) → (f ≡ x) × (h ≡ y)
-the_pair x y f h t = let b = both (f == x) (h == y) t in (eqb-true f x b.0, eqb-true h y b.1)
+the_pair x y f h t = let b = both_of (f == x) (h == y) t in (eqb-true f x b.0, eqb-true h y b.1)
 
 pub upper_first : (g : Sheet) → length g.rings ≡ 2 → Overlap g 0 1 → OrdersOverlaps g (one_pair 1 0)
 upper_first g two o = record {
@@ -155,7 +152,7 @@ two_faces_only g above two o orders = by (above 1 0) refl where
   elsewhere : (x y : ℕ) → IsTrue (above x y) → ((f h : ℕ) → IsTrue (above f h) → (f ≡ x) × (h ≡ y)) → (f h : ℕ) → above f h ≡ one_pair x y f h
   elsewhere x y t only f h = same (above f h) (one_pair x y f h) (λ u. there (only f h u)) (λ u. back (the_pair x y f h u)) where
     there : (f ≡ x) × (h ≡ y) → IsTrue (one_pair x y f h)
-    there e = rw (e.0, e.1, equal_itself x, equal_itself y) refl
+    there e = rw (e.0, e.1, same_number x, same_number y) refl
 
     back : (f ≡ x) × (h ≡ y) → IsTrue (above f h)
     back e = subst (λ a. IsTrue (above a h)) (sym e.0) (subst (λ b. IsTrue (above x b)) (sym e.1) t)

@@ -12,14 +12,15 @@ use Rattle.ff_whole.proofs.Signs.{linear, pos-mul, nonneg-mul, *ℤ-distrib_sub}
 use Rattle.ff_whole.proofs.Laws.{one-*ℤ}
 use lib.IntN.{*ℤ_comm, *ℤ-zero}
 use Rattle.std.proofs.lemmas.Bool.{cases_lt, lt-ltb, le-ltb}
-use Rattle.ff_types.proofs.Computing.{both}
 use Rattle.std.proofs.lemmas.Bool.Decides.{nat_tests}
+use Rattle.ff_basics.proofs.Memberships.{by_member, first_member, later_member, no_member}
+use Rattle.ff_basics.proofs.Lists.{all_at}
+use Rattle.ff_basics.proofs.Tests.{both_of, lt_from, of_both, to_lt}
 use Rattle.ff_types.specs.Rings.{corner, after, Goes}
 use Rattle.ff_types.specs.Faces.{ring_at}
 use Rattle.ff_types.specs.Foldings.{signed}
 use Rattle.ff_types.specs.Sheets.{is_face, Sheet, lies_up}
 use Rattle.ff_types.specs.Inside.{is_inside, steps, steps_from, depth, Overlap}
-use Rattle.ff_types.proofs.Memberships.{by_member, no_member, first_member, later_member}
 
 -- ---- depths are linear
 
@@ -53,19 +54,12 @@ from_test : (b : Bool) → T b → IsTrue b
 from_test true t = refl
 from_test false t = absurd t
 
-is_less : (z : ℤ) → pos 0 <ℤ z → IsTrue (int_lt (pos 0) z)
-is_less z h = from_test (int_lt (pos 0) z) h.lt
-
-and_true : (b c : Bool) → IsTrue b → IsTrue c → IsTrue (b && c)
-and_true true c t u = u
-and_true false c t u = t
-
 all_far : (g : Sheet) (f : ℕ) (m v : Place) (l : List (ℕ × ℕ)) → ((step : ℕ × ℕ) → Contains l step → Good g f m v step) → (low : ℕ) × ((k : ℕ) → low ≤ k → IsTrue (list_all (λ step. int_lt (pos 0) (depth g f (blend k m 1 v) step)) l))
 all_far g f m v [] good = (0, λ k h. refl)
 all_far g f m v (step ∷ l) good = by (far_enough (depth g f m step) (depth g f v step) (good step (first_member step l step refl))) (all_far g f m v l (λ s c. good s (later_member step l s c))) where
   by : (low : ℕ) × ((k : ℕ) → low ≤ k → pos 0 <ℤ (pos k *ℤ depth g f m step +ℤ depth g f v step)) → (low : ℕ) × ((k : ℕ) → low ≤ k → IsTrue (list_all (λ step. int_lt (pos 0) (depth g f (blend k m 1 v) step)) l))
       → (low : ℕ) × ((k : ℕ) → low ≤ k → IsTrue (list_all (λ step. int_lt (pos 0) (depth g f (blend k m 1 v) step)) (step ∷ l)))
-  by (a, p) (b, q) = (a + b, λ k h. and_true _ _ (is_less _ (subst (λ z. pos 0 <ℤ z) (sym (depth_blend g f m v k step)) (p k (omega (arith, h))))) (q k (omega (arith, h))))
+  by (a, p) (b, q) = (a + b, λ k h. of_both _ _ (to_lt _ (subst (λ z. pos 0 <ℤ z) (sym (depth_blend g f m v k step)) (p k (omega (arith, h))))) (q k (omega (arith, h))))
 
 -- ---- the steps of a ring
 
@@ -105,7 +99,7 @@ overlap_near g f h m v d fl hl mp vp p q = by (all_far g f m v (steps (ring_at g
     common = record {
       at = blend (a + b) m 1 v;
       place = let i = nonneg-mul (pos (a + b)) m.w (omega (arith, ints)) (omega (arith, ints, mp)) in let o = one-*ℤ v.w in omega (arith, linear);
-      inside = and_true _ _ (and_true _ _ (lt-ltb f (length g.rings) fl) (x (a + b) (omega arith))) (and_true _ _ (and_true _ _ (lt-ltb h (length g.rings) hl) (y (a + b) (omega arith))) refl);
+      inside = of_both _ _ (of_both _ _ (lt-ltb f (length g.rings) fl) (x (a + b) (omega arith))) (of_both _ _ (of_both _ _ (lt-ltb h (length g.rings) hl) (y (a + b) (omega arith))) refl);
     };
   }
 
@@ -136,13 +130,6 @@ goes_step (u ∷ rest) x y s = subst (λ z. Contains (steps (u ∷ rest)) z) (pa
   pair : {a b c d : ℕ} → a ≡ c → b ≡ d → ◌≡◌ {A = ℕ × ℕ} (a, b) (c, d)
   pair {a} {b} {c} {d} e f = ap (λ z. (z, b)) e ∙ ap (λ z. (c, z)) f
 
-all_of : {A : Type 0} (p : A → Bool) (l : List A) → IsTrue (list_all p l) → (x : A) → Contains l x → IsTrue (p x)
-all_of p [] t x c = absurd (no_member x c)
-all_of p (y ∷ l) t x c = by_member y l x (λ e. subst (λ z. IsTrue (p z)) e (both (p y) (list_all p l) t).0) (λ n. all_of p l (both (p y) (list_all p l) t).1 x n) c
-
-to_test : (z : ℤ) → IsTrue (int_lt (pos 0) z) → pos 0 <ℤ z
-to_test z t = omega (arith, ints, t)
-
 -- A place inside a face lies on the inner side of each of its steps.
 pub inside_step : (g : Sheet) (f : ℕ) (s : Place) (x y : ℕ) → IsTrue (is_inside g f s) → Goes (ring_at g.rings f) x y → pos 0 <ℤ depth g f s (x, y)
-inside_step g f s x y t e = to_test (depth g f s (x, y)) (all_of (λ step. int_lt (pos 0) (depth g f s step)) (steps (ring_at g.rings f)) (both (is_face g f) _ t).1 (x, y) (goes_step (ring_at g.rings f) x y e))
+inside_step g f s x y t e = lt_from (depth g f s (x, y)) (all_at (λ step. int_lt (pos 0) (depth g f s step)) (steps (ring_at g.rings f)) (both_of (is_face g f) _ t).1 (x, y) (goes_step (ring_at g.rings f) x y e))

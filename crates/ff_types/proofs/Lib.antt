@@ -11,7 +11,6 @@ mod FoldingTests
 mod SheetTests
 mod CiteTests
 mod PlacingTests
-pub mod Memberships
 pub mod TwoFaces
 pub mod FewFaces
 mod StackingTests

@@ -6,6 +6,7 @@ use Rattle.std.proofs.lemmas.Int.{ints, by_lt_z}
 use Rattle.std.proofs.lemmas.Bool.{cases_lt, eqb-true, eqb-false}
 use Rattle.std.proofs.lemmas.Bool.Decides.{nat_tests}
 use Rattle.std.proofs.lemmas.List.{length-append, get_or_append_left, get_or-append_right}
+use Rattle.ff_basics.proofs.Numbers.{same_number}
 use Rattle.ff_whole.specs.declared.points.Pt.{Pt}
 use Rattle.ff_whole.specs.Points.{minus, cross, turn, mix, IsNear, origin}
 use Rattle.ff_whole.specs.Convex.{next, point_at, AreApart, IsConvex}
@@ -17,7 +18,6 @@ use Rattle.ff_whole.proofs.ClosedLists.{next-below, next-apart}
 use Rattle.ff_types.specs.declared.patterns.EdgeEnds.{EdgeEnds}
 use Rattle.ff_types.specs.Patterns.{edge_at, Joins}
 use Rattle.ff_types.specs.Drawings.{IsDrawing, MeetAtEnds, IsEnd, HasTwoEdges, joins, has_end}
-use Rattle.ff_types.proofs.Computing.{equal_itself}
 use Rattle.ff_types.proofs.ComputedFaces.{joins_is}
 use Rattle.ff_types.proofs.ConvexEdges.{inside_alone, turn_mixed, turn-last, turn_cycled, turn_swapped, exchange, corners_turn, none}
 use Rattle.ff_types.specs.PlainSheets.{IsCycle}
@@ -82,12 +82,12 @@ add_edge points es c d j new m = record {
 
   joins_back : (x y : EdgeEnds) → IsTrue (joins x.a x.b y) → IsTrue (joins y.a y.b x)
   joins_back x y t = elim (joins_is y x.a x.b t) [
-    | inl p ↦ rw (p.0, p.1, equal_itself x.a, equal_itself x.b) refl
+    | inl p ↦ rw (p.0, p.1, same_number x.a, same_number x.b) refl
     | inr p ↦ rw (p.0, p.1) (second (x.a == x.b && x.b == x.a))
   ] where
     second : (b : Bool) → IsTrue (b || (x.a == x.a && x.b == x.b))
     second true = refl
-    second false = rw (equal_itself x.a, equal_itself x.b) refl
+    second false = rw (same_number x.a, same_number x.b) refl
 
   once : (e k : ℕ) → e < length (es ++ c ∷ []) → k < length (es ++ c ∷ []) → IsTrue (joins (edge_at (es ++ c ∷ []) e).a (edge_at (es ++ c ∷ []) e).b (edge_at (es ++ c ∷ []) k)) → e ≡ k
   once e k h l = elim (where_is e h) [

@@ -2,8 +2,8 @@
 use Rattle.std.proofs.Common.{◌≡◌, ℕ, zero, suc, ◌-◌, ◌<◌, ◌==◌, Bool, true, false, ◌&&◌, ◌||◌, List, length, refl, sym, ◌∙◌, subst, Some, arith, IsTrue, slice_get, nat_lt, ◌⊎◌, inl, inr}
 use Rattle.std.proofs.lemmas.Bool.{eqb-true, eqb-false, lt-ltb}
 use Rattle.std.proofs.lemmas.Option.{slice_get-get_or, slice_get_within, get_or_from_slice_get}
+use Rattle.ff_basics.proofs.Numbers.{same_number}
 use Rattle.ff_types.specs.Pairs.{AreSorted, IsNext, is_before, pair_at}
-use Rattle.ff_types.proofs.Computing.{equal_itself}
 use Rattle.ff_types.proofs.SortedPairs.{before_is}
 
 first_before : (p q : ℕ × ℕ) → p.0 < q.0 → IsTrue (is_before p q)
@@ -12,7 +12,7 @@ first_before p q h = rw (lt-ltb p.0 q.0 h) refl
 second_before : (p q : ℕ × ℕ) → p.0 ≡ q.0 → p.1 < q.1 → IsTrue (is_before p q)
 second_before p q e h = by (nat_lt p.0 q.0) where
   same : IsTrue (p.0 == q.0 && nat_lt p.1 q.1)
-  same = rw (e, equal_itself q.0, lt-ltb p.1 q.1 h) refl
+  same = rw (e, same_number q.0, lt-ltb p.1 q.1 h) refl
 
   by : (b : Bool) → IsTrue (b || (p.0 == q.0 && nat_lt p.1 q.1))
   by true = refl

@@ -10,6 +10,8 @@ use Rattle.std.proofs.lemmas.Bool.{false≢true}
 use Rattle.std.proofs.lemmas.Bool.Decides.{nat_tests}
 use Rattle.std.proofs.lemmas.List.{ext_get_or}
 use Rattle.std.proofs.lemmas.List.FromFn.{get_or-range_with_len, length-range_with_len, length-map-range_with_len, get_or-map-range_with_len}
+use Rattle.ff_basics.proofs.Numbers.{same_number}
+use Rattle.ff_basics.proofs.Tests.{either_of}
 use Rattle.ff_whole.specs.declared.points.Pt.{Pt}
 use Rattle.ff_whole.specs.Points.{minus, cross, turn, IsNear, origin}
 use Rattle.ff_whole.specs.Convex.{next, point_at, left_of, AreApart, IsConvex}
@@ -29,7 +31,6 @@ use Rattle.ff_types.specs.Faces.{ring_at, mark_at, Belongs, IsOuter, IsOuterWalk
 use Rattle.ff_types.specs.Sides.{sides_at, AreSides, AreFaces}
 use Rattle.ff_types.specs.PlainSheets.{IsCycle, whole}
 use Rattle.ff_types.specs.Foldings.{IsFolding, FitFlags, KeepsShape, RingKeepsShape, is_up, scaled}
-use Rattle.ff_types.proofs.Computing.{either, equal_itself}
 use Rattle.ff_types.proofs.ComputedFaces.{joins_is, next_inner, next_last}
 use Rattle.ff_types.proofs.ComputedFoldings.{least_one}
 use Rattle.ff_types.proofs.ConvexEdges.{inside_alone, turn-last}
@@ -76,13 +77,13 @@ joined_at (k ∷ edges) (suc e) u v h t = by (joins u v k) (joined_at edges e u 
 
 pub some_joins : (edges : List EdgeEnds) (u v : ℕ) → IsTrue (joined edges u v) → (e : ℕ) × (e < length edges) × IsTrue (joins u v (edge_at edges e))
 some_joins [] u v t = absurd (false≢true t)
-some_joins (k ∷ edges) u v t = elim (either (joins u v k) (joined edges u v) t) [
+some_joins (k ∷ edges) u v t = elim (either_of (joins u v k) (joined edges u v) t) [
   | inl h ↦ (0, omega arith, h)
   | inr h ↦ let r = some_joins edges u v h in (suc r.0, omega (arith, r.1), r.2)
 ]
 
 pub joins_itself : (a b : ℕ) → IsTrue (joins a b (record { a = a; b = b }))
-joins_itself a b = rw (equal_itself a, equal_itself b) refl
+joins_itself a b = rw (same_number a, same_number b) refl
 
 -- ---- areas
 
@@ -146,10 +147,10 @@ module _ (points : List Pt) (edges : List EdgeEnds) (near : All IsNear points) (
     by (inr p) = absurd (next_back n e enough (below_n e h) (ap (next n) (sym p.0) ∙ p.1))
 
   ends_there : (e : ℕ) → e < n → IsTrue (has_end (edge_at edges e) e) × IsTrue (has_end (edge_at edges e) (next n e))
-  ends_there e h = (subst (λ k. IsTrue (has_end k e)) (sym (cycle.joined e h)) (rw (equal_itself e) refl), subst (λ k. IsTrue (has_end k (next n e))) (sym (cycle.joined e h)) (second (e == next n e))) where
+  ends_there e h = (subst (λ k. IsTrue (has_end k e)) (sym (cycle.joined e h)) (rw (same_number e) refl), subst (λ k. IsTrue (has_end k (next n e))) (sym (cycle.joined e h)) (second (e == next n e))) where
     second : (b : Bool) → IsTrue (b || (next n e == next n e))
     second true = refl
-    second false = equal_itself (next n e)
+    second false = same_number (next n e)
 
   two : (v : ℕ) → v < n → HasTwoEdges edges v
   two zero h = (0, n - 1, omega (arith, enough), below_edges (n - 1) (omega (arith, enough)), (ends_there 0 h).0, subst (λ k. IsTrue (has_end (edge_at edges (n - 1)) k)) last (ends_there (n - 1) (omega (arith, enough))).1) where

@@ -7,14 +7,12 @@ use Rattle.std.specs.Result.{result_ok}
 use Rattle.std.proofs.lemmas.Bool.{false≢true, eqb-true, ltb-true, ltb-false, lt-ltb}
 use Rattle.std.proofs.lemmas.Cmp.{nat_cmp_total, then_total, on_total}
 use Rattle.std.proofs.lemmas.List.Sorted.{searchable_from_sorted}
-use Rattle.std.proofs.lemmas.Option.{slice_get-get_or, slice_get_within, get_or_from_slice_get}
+use Rattle.std.proofs.lemmas.Option.{slice_get-get_or, slice_get_within, get_or_from_slice_get, same_Some}
+use Rattle.ff_basics.proofs.Tests.{and_true}
+use Rattle.ff_basics.proofs.Numbers.{same_number}
 use Rattle.ff_types.specs.Pairs.{AreSorted, is_before, place_in, number_of, StandsIn, in_order}
 
 -- ---- a pair stands at one place
-
-both_true : (b c : Bool) → (b && c) ≡ true → (b ≡ true) × (c ≡ true)
-both_true true c e = (refl, e)
-both_true false c e = absurd (false≢true e)
 
 either_true : (b c : Bool) → (b || c) ≡ true → (b ≡ true) ⊎ (c ≡ true)
 either_true true c e = inl refl
@@ -24,7 +22,7 @@ either_true false c e = inr e
 pub before_is : (p q : ℕ × ℕ) → IsTrue (is_before p q) → (p.0 < q.0) ⊎ ((p.0 ≡ q.0) × (p.1 < q.1))
 before_is p q h = elim (either_true _ _ h) [
   | inl e ↦ inl (ltb-true _ _ e)
-  | inr e ↦ let b = both_true _ _ e in inr (eqb-true _ _ b.0, ltb-true _ _ b.1)
+  | inr e ↦ let b = and_true _ _ e in inr (eqb-true _ _ b.0, ltb-true _ _ b.1)
 ]
 
 not_before_itself : (p : ℕ × ℕ) → IsTrue (is_before p p) → ⊥
@@ -32,9 +30,6 @@ not_before_itself p h = elim (before_is p p h) [
   | inl e ↦ omega (arith, e)
   | inr e ↦ omega (arith, e.1)
 ]
-
-some_of : {A : Type 0} (x y : A) → Some x ≡ Some y → x ≡ y
-some_of x y e = cc
 
 same_place : (list : List (ℕ × ℕ)) (p : ℕ × ℕ) (m n : ℕ) → AreSorted list → slice_get list m ≡ Some p → slice_get list n ≡ Some p → (m < n → ⊥)
 same_place list p m n h a b l = not_before_itself p (h.sorted m n p p l a b)
@@ -55,17 +50,14 @@ next_stands q list p (Some n) d h = subst (λ k. slice_get (q ∷ list) k ≡ So
   add_one n = omega arith
 next_stands q list p None d h = λ n. elsewhere n where
   elsewhere : (n : ℕ) → slice_get (q ∷ list) n ≡ Some p → ⊥
-  elsewhere zero e = d (some_of q p e)
+  elsewhere zero e = d (same_Some q p e)
   elsewhere (suc n) e = h n e
 
 same_pair : (q p : ℕ × ℕ) → (q.0 ≡ p.0) → (q.1 ≡ p.1) → q ≡ p
 same_pair (a, b) (c, d) e f = ap (λ x. (x, b)) e ∙ ap (λ y. (c, y)) f
 
-equal_itself : (n : ℕ) → (n == n) ≡ true
-equal_itself n = search rules
-
 pair_itself : (p : ℕ × ℕ) → (p.0 == p.0 && p.1 == p.1) ≡ true
-pair_itself p = rw (equal_itself p.0, equal_itself p.1) refl
+pair_itself p = rw (same_number p.0, same_number p.1) refl
 
 pub place_stands : (list : List (ℕ × ℕ)) (p : ℕ × ℕ) → StandsIn list p (place_in list p)
 place_stands [] p = λ n e. omega (arith, slice_get_within [] n p e)
@@ -74,7 +66,7 @@ place_stands (q ∷ list) p = by (q.0 == p.0 && q.1 == p.1) refl (place_stands l
   differ f e = false≢true (sym f ∙ (ap (λ x. x.0 == p.0 && x.1 == p.1) e ∙ pair_itself p))
 
   by : (b : Bool) → (q.0 == p.0 && q.1 == p.1) ≡ b → StandsIn list p (place_in list p) → StandsIn (q ∷ list) p (if b then Some 0 else option_map (λ n. n + 1) (place_in list p))
-  by true e h = let b = both_true (q.0 == p.0) (q.1 == p.1) e in ap Some (same_pair q p (eqb-true _ _ b.0) (eqb-true _ _ b.1))
+  by true e h = let b = and_true (q.0 == p.0) (q.1 == p.1) e in ap Some (same_pair q p (eqb-true _ _ b.0) (eqb-true _ _ b.1))
   by false e h = next_stands q list p (place_in list p) (differ e) h
 
 -- ---- halving finds it

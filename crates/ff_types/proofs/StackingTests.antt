@@ -3,6 +3,7 @@ use Rattle.std.proofs.Common.{◌≡◌, ℕ, zero, suc, ◌<◌, ◌⊎◌, inl
 use Rattle.std.specs.Prelude.{int_lt}
 use Rattle.std.proofs.lemmas.Int.{ints}
 use Rattle.std.proofs.lemmas.Bool.{false≢true}
+use Rattle.ff_basics.proofs.Tests.{both_of}
 use Rattle.ff_tables.specs.declared.orders.Order.{Order}
 use Rattle.ff_tables.specs.declared.orders.Order.TheVariants.{Below, Above}
 use Rattle.ff_tables.specs.Listed.{height}
@@ -21,7 +22,6 @@ use Rattle.ff_types.specs.PlainSheets.{no_pairs}
 use Rattle.ff_types.specs.OneCrease.{one_pair}
 use Rattle.ff_types.proofs.Named.{unit, diagonal, crease_v, crease_m, crease_u, slant, strip_212}
 use Rattle.ff_types.proofs.Members.{turned_same, three_rise, one_rises}
-use Rattle.ff_types.proofs.Computing.{both}
 use Rattle.ff_types.proofs.FewFaces.{one_face_stacks, one_face_only, two_faces_stack, upper_first, lower_first, two_faces_only}
 
 abbrev at : ℤ → ℤ → ℤ → Place
@@ -35,7 +35,7 @@ unit_stacks = one_face_stacks unit refl
 -- ---- one crease. Whatever its mark, its faces overlap
 
 pub crease_overlap : (g : Sheet) → IsTrue (is_inside g 0 (at (pos 3) (pos 1) (pos 4)) && is_inside g 1 (at (pos 3) (pos 1) (pos 4))) → Overlap g 0 1
-crease_overlap g t = let b = both (is_inside g 0 (at (pos 3) (pos 1) (pos 4))) _ t in record { differ = λ e. absurd (omega (arith, e)); common = record { at = at (pos 3) (pos 1) (pos 4); place = omega (arith, ints); inside = all _ _ b.0 b.1 } } where
+crease_overlap g t = let b = both_of (is_inside g 0 (at (pos 3) (pos 1) (pos 4))) _ t in record { differ = λ e. absurd (omega (arith, e)); common = record { at = at (pos 3) (pos 1) (pos 4); place = omega (arith, ints); inside = all _ _ b.0 b.1 } } where
   all : (b c : Bool) → IsTrue b → IsTrue c → IsTrue (b && (c && true))
   all true true t u = refl
   all true false t u = absurd (false≢true u)
@@ -44,7 +44,7 @@ crease_overlap g t = let b = both (is_inside g 0 (at (pos 3) (pos 1) (pos 4))) _
 valley_overlap : Overlap crease_v 0 1
 valley_overlap = crease_overlap crease_v refl
 
--- unassigned: both orders are geometric stackings, and keep the crease
+-- unassigned: both_of orders are geometric stackings, and keep the crease
 
 unassigned_upper : IsGeometricStacking crease_u (one_pair 1 0)
 unassigned_upper = two_faces_stack crease_u (one_pair 1 0) refl (crease_overlap crease_u refl) (upper_first crease_u refl (crease_overlap crease_u refl))
@@ -111,12 +111,12 @@ three true false r t = absurd (false≢true t)
 three false q r t = absurd (false≢true t)
 
 flat_apart : Overlap diagonal 0 1 → ⊥
-flat_apart o = apart o.common.at.x o.common.at.y o.common.at.w (both (is_inside diagonal 0 o.common.at) _ o.common.inside) where
+flat_apart o = apart o.common.at.x o.common.at.y o.common.at.w (both_of (is_inside diagonal 0 o.common.at) _ o.common.inside) where
   apart : (x y w : ℤ) → IsTrue (is_inside diagonal 0 (at x y w)) × IsTrue (is_inside diagonal 1 (at x y w) && true) → ⊥
   apart x y w h =
       let inner = λ (f : ℕ) (step : ℕ × ℕ). int_lt (pos 0) (depth diagonal f (at x y w) step) in
       let a = (three (inner 0 (0, 1)) (inner 0 (1, 2)) (inner 0 (2, 0)) h.0).2 in
-      let b = (three (inner 1 (0, 2)) (inner 1 (2, 3)) (inner 1 (3, 0)) (both (is_inside diagonal 1 (at x y w)) true h.1).0).0 in absurd (omega (arith, ints, a, b))
+      let b = (three (inner 1 (0, 2)) (inner 1 (2, 3)) (inner 1 (3, 0)) (both_of (is_inside diagonal 1 (at x y w)) true h.1).0).0 in absurd (omega (arith, ints, a, b))
 
 -- ---- paper that crosses: bottom to top 0, 2, 1 on strip_212, where face 2 runs through the crease of 0 and 1
 

@@ -5,6 +5,7 @@ use Rattle.std.proofs.lemmas.Int.{by_lt_z}
 use Rattle.std.proofs.lemmas.Bool.{cases_lt}
 use Rattle.std.proofs.lemmas.Bool.Decides.{nat_tests}
 use Rattle.std.proofs.lemmas.List.{length-map, get_or-map}
+use Rattle.ff_basics.proofs.Numbers.{less_or}
 use Rattle.ff_whole.specs.declared.points.Pt.{Pt}
 use Rattle.ff_whole.specs.Points.{minus, turn, IsNear, origin}
 use Rattle.ff_whole.specs.Convex.{next, point_at, left_of, AreApart, IsConvex}
@@ -28,9 +29,6 @@ corner_point points list a h = get_or-map (point_at points) list a 0 origin h
 corners_size : (points : List Pt) (list : List ℕ) → length (corners points list) ≡ length list
 corners_size points list = length-map list (point_at points)
 
-which : (a b : ℕ) → (a < b) ⊎ ((a ≡ b) ⊎ (b < a))
-which a b = elim (cases_lt a b) [ inl h ↦ inl h | inr h ↦ elim (cases_lt b a) [ inl l ↦ inr (inr l) | inr l ↦ inr (inl (omega (arith, h, l))) ] ]
-
 next_is : (m a : ℕ) → a < m → ((a + 1 < m) × (next m a ≡ a + 1)) ⊎ ((a + 1 ≡ m) × (next m a ≡ 0))
 next_is m a h = elim (cases_lt (a + 1) m) [ inl l ↦ inl (l, grind (arith, nat_tests, l)) | inr l ↦ inr (omega (arith, h, l), grind (arith, nat_tests, l)) ]
 
@@ -42,11 +40,11 @@ module _ (points : List Pt) (near : All IsNear points) (apart : AreApart points)
   turns a b c h k l = corners_turn points near apart ring enough (corner list a) (corner list b) (corner list c) (rises.rising a b h (omega (arith, k, l))) (rises.rising b c k l) (rises.low c l)
 
   left_next : (a b : ℕ) → a + 1 < length list → b < length list → pos 0 ≤ℤ turn (K a) (K (a + 1)) (K b)
-  left_next a b h l = elim (which b a) [
+  left_next a b h l = elim (less_or b a) [
     | inl o ↦ (let t = turns b a (a + 1) o (omega arith) h in let c = turn_cycled (K b) (K a) (K (a + 1)) in omega (arith, linear))
     | inr o ↦ elim o [
       | inl e ↦ subst (λ x. pos 0 ≤ℤ turn (K a) (K (a + 1)) (K x)) (sym e) (let z = turn-first (K a) (K (a + 1)) in omega (arith, linear))
-      | inr o ↦ elim (which (a + 1) b) [
+      | inr o ↦ elim (less_or (a + 1) b) [
         | inl p ↦ turns a (a + 1) b (omega arith) p l
         | inr p ↦ elim p [
           | inl e ↦ subst (λ x. pos 0 ≤ℤ turn (K a) (K (a + 1)) (K x)) e (let z = turn-last (K a) (K (a + 1)) in omega (arith, linear))
@@ -71,7 +69,7 @@ module _ (points : List Pt) (near : All IsNear points) (apart : AreApart points)
   ]
 
   differ : (a b : ℕ) → a < length list → b < length list → corner list a ≡ corner list b → a ≡ b
-  differ a b h l e = elim (which a b) [
+  differ a b h l e = elim (less_or a b) [
     | inl o ↦ absurd (omega (arith, rises.rising a b o l, e))
     | inr o ↦ elim o [ inl e ↦ e | inr o ↦ absurd (omega (arith, rises.rising b a o h, e)) ]
   ]

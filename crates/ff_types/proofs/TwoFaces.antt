@@ -4,6 +4,7 @@ use Rattle.std.specs.List.{Contains, AllPairs, filter}
 use Rattle.std.proofs.lemmas.Bool.{false≢true}
 use Rattle.std.proofs.lemmas.List.{length-map, length-reverse, length-append}
 use Rattle.std.proofs.lemmas.List.Elements.{Contains-append_cases}
+use Rattle.ff_basics.proofs.Memberships.{by_member, first_member, in_filter, in_map, in_range, later_member, no_member}
 use Rattle.ff_whole.specs.declared.places.Place.{Place}
 use Rattle.ff_types.specs.declared.patterns.Mark.{Mark}
 use Rattle.ff_types.specs.declared.patterns.Mark.TheVariants.{B, M, V, F, U}
@@ -14,7 +15,6 @@ use Rattle.ff_types.specs.Covering.{covers_left, covers_right}
 use Rattle.ff_types.specs.Stackings.{OrdersOverlaps, IsListing, IsStacking}
 use Rattle.ff_types.specs.Crossings.{Side, circle, entry, face_chord, edge_chord, edge_chords, chords, Between, Outside, StandsAt, Alternate, IsUncrossed, IsGeometricStacking}
 use Rattle.ff_types.specs.Crossings.Side.{Left, Right}
-use Rattle.ff_types.proofs.Memberships.{no_member, by_member, first_member, later_member, in_map, in_filter, in_range}
 
 -- ---- chords
 

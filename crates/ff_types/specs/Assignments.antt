@@ -11,14 +11,17 @@ use Rattle.ff_types.specs.Sheets.{Sheet}
 use Rattle.ff_types.specs.Keeping.{KeepsCreases}
 use Rattle.ff_types.specs.Crossings.{IsGeometricStacking}
 
+-- the order is known, and is above
 abbrev pub says_above : Option Order → Bool
 says_above (Some Above) = true
 says_above _ = false
 
+-- the order is known, and is below
 abbrev pub says_below : Option Order → Bool
 says_below (Some Below) = true
 says_below _ = false
 
+-- the value of a pair's variable, where the pair has one
 abbrev pub value_at : (ℕ → Option Order) → Option ℕ → Option Order
 value_at values (Some n) = values n
 value_at values None = None

@@ -17,6 +17,7 @@ abbrev pub is_between : Sheet → ℕ → Place → Bool
 is_between g e s = int_eq (height (line_of g e) s) (pos 0) && int_lt (pos 0) (past (tail g e) (head g e) s)
     && int_lt (pos 0) (past (head g e) (tail g e) s)
 
+-- the images of the two edges have one direction, or opposite ones
 abbrev pub are_parallel : Sheet → ℕ → ℕ → Bool
 are_parallel g e k = int_eq (slant (line_of g e) (line_of g k)) (pos 0)
 

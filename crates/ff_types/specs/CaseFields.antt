@@ -12,6 +12,7 @@ abbrev pub is_crease : GivenBy → Bool
 is_crease (Crease e) = true
 is_crease Pin = false
 
+-- what the fields of every case say together, whatever sheet it is of
 pub record AreCaseFields (system : System) (cites : List Cite) (pairs : List (ℕ × ℕ))
     (starts : List Given) : Type 0 where
   -- one cite per constraint, one pair per variable

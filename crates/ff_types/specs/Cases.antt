@@ -35,6 +35,7 @@ pub record IsTermOf (pairs : List (ℕ × ℕ)) (pair : ℕ × ℕ) (term : Term
   pub variable : number_of pairs pair.0 pair.1 ≡ Some term.var
   pub turned : term.flipped ≡ nat_lt pair.1 pair.0
 
+-- the constraint has the kind of the cite and the terms of the cite, as variables
 pub record IsConstraintOf (g : Sheet) (pairs : List (ℕ × ℕ)) (c : Cite) (con : Constraint) : Type 0 where
   pub kind : con.kind ≡ kind_of c
   pub counted : length con.terms ≡ length (terms_of g c)
@@ -49,6 +50,7 @@ crease_order M true = Some Above
 crease_order M false = Some Below
 crease_order _ _ = None
 
+-- the start by the crease, where the pair has a variable and the crease says an order
 abbrev pub given_by : ℕ → Option ℕ → Option Order → Option Given
 given_by e (Some var) (Some value) = Some (record { var = var; value = value; by = Crease e })
 given_by e _ _ = None
@@ -57,6 +59,7 @@ given_by e _ _ = None
 abbrev pub start_of : Sheet → List (ℕ × ℕ) → ℕ → Option Given
 start_of g pairs e = given_by e (number_of pairs (lesser g e) (greater g e)) (crease_order (mark_of g e) (lies_up g (lesser g e)))
 
+-- the case is the sheet's: its pairs, cites, constraints and starts are those of the sheet, all of them, in order
 pub record IsCaseOf (g : Sheet) (case : Case) : Type 0 where
   -- the overlapping pairs, all of them
   pub sorted_pairs : AreSorted case.pairs

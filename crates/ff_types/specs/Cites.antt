@@ -19,13 +19,16 @@ use Rattle.ff_types.specs.Segments.{ShareSegment, HasEdgeInside}
 abbrev pub is_folded_edge : Sheet → ℕ → Bool
 is_folded_edge g e = is_edge g e && is_folded (mark_of g e)
 
+-- the mark of an edge that stays flat
 abbrev pub is_flat : Mark → Bool
 is_flat F = true
 is_flat _ = false
 
+-- an edge of the sheet that stays flat
 abbrev pub is_flat_edge : Sheet → ℕ → Bool
 is_flat_edge g e = is_edge g e && is_flat (mark_of g e)
 
+-- the face, and 0 where there is none
 abbrev pub face_or : Option ℕ → ℕ
 face_or (Some f) = f
 face_or None = 0
@@ -34,6 +37,7 @@ face_or None = 0
 abbrev pub lesser : Sheet → ℕ → ℕ
 lesser g e = min (face_or (left_face g e)) (face_or (right_face g e))
 
+-- the face beside the edge with the greater number
 abbrev pub greater : Sheet → ℕ → ℕ
 greater g e = max (face_or (left_face g e)) (face_or (right_face g e))
 

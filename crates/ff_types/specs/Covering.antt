@@ -17,6 +17,7 @@ is_on_ring g f s = list_any (λ k. is_on g k s && bounds g k f) (edges_of g)
 abbrev pub lies_left : Sheet → ℕ → ℕ → Bool
 lies_left g e f = list_all (λ v. int_le (pos 0) (height (line_of g e) (place_of (point_at g.images v)))) (ring_at g.rings f)
 
+-- so on the right side
 abbrev pub lies_right : Sheet → ℕ → ℕ → Bool
 lies_right g e f = list_all (λ v. int_le (height (line_of g e) (place_of (point_at g.images v))) (pos 0)) (ring_at g.rings f)
 
@@ -24,11 +25,14 @@ lies_right g e f = list_all (λ v. int_le (height (line_of g e) (place_of (point
 abbrev pub covers_left : Sheet → ℕ → Place → ℕ → Bool
 covers_left g e s f = is_inside g f s || (is_on_ring g f s && lies_left g e f)
 
+-- so on the right side
 abbrev pub covers_right : Sheet → ℕ → Place → ℕ → Bool
 covers_right g e s f = is_inside g f s || (is_on_ring g f s && lies_right g e f)
 
+-- the faces that cover the left side, in order of their numbers
 abbrev pub left_faces : Sheet → ℕ → Place → List ℕ
 left_faces g e s = filter (covers_left g e s) (faces_of g)
 
+-- the faces that cover the right side, in order of their numbers
 abbrev pub right_faces : Sheet → ℕ → Place → List ℕ
 right_faces g e s = filter (covers_right g e s) (faces_of g)

@@ -33,10 +33,12 @@ edge_chord g e s B _ _ = []
 edge_chord g e s _ (Some f) (Some h) = (entry g e s f, entry g e s h) ∷ []
 edge_chord g e s _ _ _ = []
 
+-- the chords of those of the edges that hold the place
 abbrev pub edge_chords : Sheet → ℕ → Place → List ℕ → List (Side × Side)
 edge_chords g e s [] = []
 edge_chords g e s (k ∷ rest) = (if is_on g k s then edge_chord g e s (mark_of g k) (left_face g k) (right_face g k) else []) ++ edge_chords g e s rest
 
+-- all chords at a place of an edge: of the faces over it, and of the edges through it
 abbrev pub chords : Sheet → ℕ → Place → List (Side × Side)
 chords g e s = map face_chord (over g s) ++ edge_chords g e s (edges_of g)
 
@@ -44,6 +46,7 @@ chords g e s = map face_chord (over g s) ++ edge_chords g e s (edges_of g)
 abbrev pub Between : ℕ → ℕ → ℕ → Type 0
 Between p q r = ((p < r) × (r < q)) ⊎ ((q < r) × (r < p))
 
+-- the number isn't between the two
 abbrev pub Outside : ℕ → ℕ → ℕ → Type 0
 Outside p q r = ((r < p) × (r < q)) ⊎ ((p < r) × (q < r))
 
@@ -71,6 +74,7 @@ IsUncrossed g above e s = (left right : List ℕ) → IsListing above (left_face
     → (c d : Side × Side) → Contains (chords g e s) c → Contains (chords g e s) d
     → Alternate (circle left right) c d → ⊥
 
+-- a stacking in which no paper crosses paper at any plain border place
 pub record IsGeometricStacking (g : Sheet) (above : ℕ → ℕ → Bool) : Type 0 where
   pub stacking : IsStacking g above
   pub uncrossed : (e : ℕ) (s : Place) → IsPlainBorder g e s → IsUncrossed g above e s

@@ -24,6 +24,7 @@ joined edges u v = list_any (joins u v) edges
 abbrev pub first_point : List Pt → EdgeEnds → Pt
 first_point points e = point_at points e.a
 
+-- where the edge ends
 abbrev pub last_point : List Pt → EdgeEnds → Pt
 last_point points e = point_at points e.b
 
@@ -48,6 +49,7 @@ abbrev pub HasTwoEdges : List EdgeEnds → ℕ → Type 0
 HasTwoEdges edges v = (e k : ℕ) × (e < k) × (k < length edges) × IsTrue (has_end (edge_at edges e) v)
     × IsTrue (has_end (edge_at edges k) v)
 
+-- a drawing: points apart, edges that join two vertices each, once, two or more at each vertex, and that meet at ends alone
 pub record IsDrawing (points : List Pt) (edges : List EdgeEnds) : Type 0 where
   pub near : (v : ℕ) → v < length points → IsNear (point_at points v)
   -- no two vertices have one point

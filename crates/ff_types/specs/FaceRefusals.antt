@@ -17,6 +17,7 @@ use Rattle.ff_types.specs.Rings.{corner, corners, IsStrictlyIn}
 use Rattle.ff_types.specs.Faces.{mark_at, AreChained, AreRings}
 use Rattle.ff_types.specs.Walks.{IsRingWalk, IsOuterSide, AreRingWalks}
 
+-- an earlier vertex has the point of this one
 abbrev pub SamePointAt : List Pt → ℕ → Type 0
 SamePointAt points v = (v < length points) × ((w : ℕ) × (w < v) × (point_at points w ≡ point_at points v))
 
@@ -25,6 +26,7 @@ abbrev pub CrossingAt : List Pt → List EdgeEnds → ℕ → ℕ → Type 0
 CrossingAt points edges e k = (e < k) × (k < length edges)
     × ((s t u v : ℕ) × Common points (edge_at edges e) (edge_at edges k) s t u v × (IsEnd s t × IsEnd u v → ⊥))
 
+-- the vertex has fewer than two edges
 abbrev pub LooseAt : List Pt → List EdgeEnds → ℕ → Type 0
 LooseAt points edges v = (v < length points) × (HasTwoEdges edges v → ⊥)
 
@@ -32,9 +34,11 @@ LooseAt points edges v = (v < length points) × (HasTwoEdges edges v → ⊥)
 abbrev pub BothOut : List Pt → List EdgeEnds → EdgeEnds → Type 0
 BothOut points edges e = IsOuterSide points edges e.a e.b × IsOuterSide points edges e.b e.a
 
+-- neither side of the edge is outside
 abbrev pub NoneOut : List Pt → List EdgeEnds → EdgeEnds → Type 0
 NoneOut points edges e = (IsOuterSide points edges e.a e.b → ⊥) × (IsOuterSide points edges e.b e.a → ⊥)
 
+-- exactly one side of the edge is outside
 abbrev pub OneOut : List Pt → List EdgeEnds → EdgeEnds → Type 0
 OneOut points edges e = (IsOuterSide points edges e.a e.b × (IsOuterSide points edges e.b e.a → ⊥))
     ⊎ ((IsOuterSide points edges e.a e.b → ⊥) × IsOuterSide points edges e.b e.a)
@@ -44,10 +48,12 @@ abbrev pub MarkOut : List Pt → List EdgeEnds → EdgeEnds → Mark → Type 0
 MarkOut points edges e B = NoneOut points edges e
 MarkOut points edges e _ = OneOut points edges e
 
+-- so it is by the mark of the edge, where marks are given
 abbrev pub MarksOut : List Pt → List EdgeEnds → ℕ → Option (List Mark) → Type 0
 MarksOut points edges e (Some marks) = MarkOut points edges (edge_at edges e) (mark_at marks e)
 MarksOut points edges e None = ⊥
 
+-- both sides of the edge are outside, or its mark disagrees with the sides that are
 abbrev pub RimAt : List Pt → List EdgeEnds → Option (List Mark) → ℕ → Type 0
 RimAt points edges marks e = (e < length edges)
     × (BothOut points edges (edge_at edges e) ⊎ MarksOut points edges e marks)
@@ -64,10 +70,12 @@ ReflexAt points edges v = (v < length points)
     × (((j : ℕ) × (j < length walk) × (i ≢ j) × (corner walk j ≡ v))
     ⊎ ((j : ℕ) × (j < length walk) × (left_of (corners points walk) j (point_at points v) <ℤ pos 0)))))
 
+-- the vertex is strictly inside a ring
 abbrev pub EnclosedAt : List Pt → List EdgeEnds → ℕ → Type 0
 EnclosedAt points edges v = (v < length points)
     × ((walk : List ℕ) × IsRingWalk points edges walk × IsStrictlyIn (corners points walk) (point_at points v))
 
+-- the face isn't joined to the first one through edges
 abbrev pub ApartAt : List Pt → List EdgeEnds → ℕ → Type 0
 ApartAt points edges f = (rings : List (List ℕ)) × AreRingWalks points edges rings × (f < length rings)
     × (AreChained rings 0 f → ⊥)
@@ -76,6 +84,7 @@ ApartAt points edges f = (rings : List (List ℕ)) × AreRingWalks points edges 
 abbrev pub IsLeast : (ℕ → Type 0) → ℕ → Type 0
 IsLeast P n = P n × ((k : ℕ) → k < n → P k → ⊥)
 
+-- it is so of no number
 abbrev pub Never : (ℕ → Type 0) → Type 0
 Never P = (n : ℕ) → P n → ⊥
 
@@ -85,6 +94,7 @@ pub record IsFirstCrossing (points : List Pt) (edges : List EdgeEnds) (e k : ℕ
   pub least_first : (d l : ℕ) → d < e → CrossingAt points edges d l → ⊥
   pub least_second : (l : ℕ) → l < k → CrossingAt points edges e l → ⊥
 
+-- no two edges cross
 abbrev pub NoCrossing : List Pt → List EdgeEnds → Type 0
 NoCrossing points edges = (e k : ℕ) → CrossingAt points edges e k → ⊥
 
@@ -94,6 +104,7 @@ pub record IsDrawn (points : List Pt) (edges : List EdgeEnds) : Type 0 where
   pub none_cross : NoCrossing points edges
   pub none_loose : Never (LooseAt points edges)
 
+-- there are more faces than the limit
 abbrev pub TooManyFaces : List Pt → List EdgeEnds → Option (List Mark) → What → ℕ → Type 0
 TooManyFaces points edges marks what.Faces limit = (limit ≡ MOST_FACES)
     × ((rings : List (List ℕ)) × AreRings points edges marks rings × (limit < length rings))

@@ -27,6 +27,7 @@ abbrev pub IsChain : List (List ℕ) → ℕ → List ℕ → ℕ → Type 0
 IsChain rings f [] g = f ≡ g
 IsChain rings f (h ∷ rest) g = (h < length rings) × Share rings f h × IsChain rings h rest g
 
+-- one face is joined to the other by a chain of faces that share edges
 abbrev pub AreChained : List (List ℕ) → ℕ → ℕ → Type 0
 AreChained rings f g = (chain : List ℕ) × IsChain rings f chain g
 

@@ -28,6 +28,7 @@ abbrev pub signed : Bool → ℤ → ℤ
 signed true z = z
 signed false z = neg_ℤ z
 
+-- the point, times a whole number
 abbrev pub scaled : ℤ → Pt → Pt
 scaled d p = record { x = d *ℤ p.x; y = d *ℤ p.y }
 
@@ -45,6 +46,7 @@ abbrev pub RingKeepsShape : ℤ → Bool → List Pt → List Pt → Type 0
 RingKeepsShape scale up ring image = (i j k : ℕ) → i < length ring → j < length ring → k < length ring
     → KeepsShape scale up (point_at ring i) (point_at ring j) (point_at ring k) (point_at image i) (point_at image j) (point_at image k)
 
+-- the number divides the other
 abbrev pub Divides : ℕ → ℤ → Type 0
 Divides d z = (k : ℤ) × (z ≡ pos d *ℤ k)
 

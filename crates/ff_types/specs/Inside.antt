@@ -13,6 +13,7 @@ abbrev pub steps_from : ℕ → ℕ → List ℕ → List (ℕ × ℕ)
 steps_from first u [] = (u, first) ∷ []
 steps_from first u (v ∷ rest) = (u, v) ∷ steps_from first v rest
 
+-- the pairs of neighbours round a ring, from its first vertex on
 abbrev pub steps : List ℕ → List (ℕ × ℕ)
 steps [] = []
 steps (v ∷ rest) = steps_from v v rest

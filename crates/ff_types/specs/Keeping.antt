@@ -14,9 +14,11 @@ KeepsMark g above V (Some f) (Some h) = IsTrue (if lies_up g f then above h f el
 KeepsMark g above M (Some f) (Some h) = IsTrue (if lies_up g f then above f h else above h f)
 KeepsMark g above _ _ _ = Unit {0}
 
+-- the edge's mark is kept by its two faces
 abbrev pub KeepsEdge : Sheet → (ℕ → ℕ → Bool) → ℕ → Type 0
 KeepsEdge g above e = KeepsMark g above (mark_of g e) (left_face g e) (right_face g e)
 
+-- all marks are kept
 abbrev pub KeepsCreases : Sheet → (ℕ → ℕ → Bool) → Type 0
 KeepsCreases g above = (e : ℕ) → e < length g.edges → KeepsEdge g above e
 

@@ -18,6 +18,7 @@ pub record Joins (vertices : ℕ) (e : EdgeEnds) : Type 0 where
   pub second : e.b < vertices
   pub differ : e.a ≢ e.b
 
+-- what is so of each pattern that was read: its limits, that its edges join vertices, and that there is a mark for each edge if for any
 pub record IsPattern (points : List Pt) (edges : List EdgeEnds) (marks : Option (List Mark)) : Type 0 where
   pub few_points : length points ≤ MOST_VERTICES
   pub few_edges : length edges ≤ MOST_EDGES

@@ -22,6 +22,7 @@ abbrev pub other_of : ℕ → Option ℕ → Option ℕ → Option ℕ
 other_of f (Some a) (Some b) = if a == f then Some b else (if b == f then Some a else None)
 other_of f _ _ = None
 
+-- how the face meets the one on the other side of its edge, where there is one
 abbrev pub meeting_over : ℕ → List EdgeSides → ℕ → Option Meeting
 meeting_over f sides e = option_map (λ h. record { face = f; edge = e; across = h }) (other_of f (sides_at sides e).left (sides_at sides e).right)
 
@@ -33,10 +34,12 @@ meeting_at f edges sides step = option_and_then (meeting_over f sides) (position
 abbrev pub meetings_of : List (List ℕ) → List EdgeEnds → List EdgeSides → ℕ → List Meeting
 meetings_of rings edges sides f = filter_map (meeting_at f edges sides) (steps (ring_at rings f))
 
+-- the meetings of all faces of the order, one after the other
 abbrev pub meetings : List (List ℕ) → List EdgeEnds → List EdgeSides → List ℕ → List Meeting
 meetings rings edges sides [] = []
 meetings rings edges sides (f ∷ order) = meetings_of rings edges sides f ++ meetings rings edges sides order
 
+-- the number stands in the list
 abbrev pub has_number : ℕ → List ℕ → Bool
 has_number x [] = false
 has_number x (y ∷ ys) = if x == y then true else has_number x ys

@@ -11,6 +11,7 @@ use Rattle.ff_types.specs.Drawings.{joined, first_point, last_point}
 abbrev pub corner : List ℕ → ℕ → ℕ
 corner ring i = slice_index ring i
 
+-- the vertex after this place round the ring
 abbrev pub after : List ℕ → ℕ → ℕ
 after ring i = slice_index ring (next (length ring) i)
 
@@ -34,6 +35,7 @@ abbrev pub IsMixStrictlyIn : List Pt → ℕ → Pt → ℕ → Pt → Type 0
 IsMixStrictlyIn ring s p t q = (i : ℕ) → i < length ring
     → pos 0 <ℤ ((pos s *ℤ left_of ring i p) +ℤ (pos t *ℤ left_of ring i q))
 
+-- the ring of a face: different vertices, joined one after the other, convex, with no vertex and no edge strictly inside
 pub record IsRing (points : List Pt) (edges : List EdgeEnds) (ring : List ℕ) : Type 0 where
   -- at least three different vertices
   pub three : 3 ≤ length ring

@@ -25,6 +25,7 @@ pub record Sheet : Type 0 where
   pub sides : List EdgeSides
   pub marks : List Mark
 
+-- the sheet of a pattern with its faces and its folding
 abbrev pub sheet_of : Pattern → Faces → Folded → Sheet
 sheet_of pattern faces folded = record { images = folded.points; rings = faces.rings; up = folded.up; edges = pattern.edges; sides = faces.sides; marks = faces.marks }
 
@@ -32,15 +33,19 @@ sheet_of pattern faces folded = record { images = folded.points; rings = faces.r
 abbrev pub faces_of : Sheet → List ℕ
 faces_of g = range_with_len 0 (length g.rings)
 
+-- and of its edges
 abbrev pub edges_of : Sheet → List ℕ
 edges_of g = range_with_len 0 (length g.edges)
 
+-- the number is a face's
 abbrev pub is_face : Sheet → ℕ → Bool
 is_face g f = nat_lt f (length g.rings)
 
+-- the number is an edge's
 abbrev pub is_edge : Sheet → ℕ → Bool
 is_edge g e = nat_lt e (length g.edges)
 
+-- the face lies with its upper side up
 abbrev pub lies_up : Sheet → ℕ → Bool
 lies_up g f = is_up g.up f
 
@@ -48,12 +53,15 @@ lies_up g f = is_up g.up f
 abbrev pub tail : Sheet → ℕ → Pt
 tail g e = point_at g.images (edge_at g.edges e).a
 
+-- the image of the second end of an edge
 abbrev pub head : Sheet → ℕ → Pt
 head g e = point_at g.images (edge_at g.edges e).b
 
+-- the line through the images of the edge's ends, in its direction
 abbrev pub line_of : Sheet → ℕ → Line
 line_of g e = through (tail g e) (head g e)
 
+-- the mark of an edge
 abbrev pub mark_of : Sheet → ℕ → Mark
 mark_of g e = mark_at g.marks e
 
@@ -61,9 +69,11 @@ mark_of g e = mark_at g.marks e
 abbrev pub left_face : Sheet → ℕ → Option ℕ
 left_face g e = (sides_at g.sides e).left
 
+-- the face right of an edge, where there is one
 abbrev pub right_face : Sheet → ℕ → Option ℕ
 right_face g e = (sides_at g.sides e).right
 
+-- it is this face
 abbrev pub is_some_of : ℕ → Option ℕ → Bool
 is_some_of f None = false
 is_some_of f (Some h) = f == h

@@ -15,9 +15,11 @@ listed_of (con ∷ cons) (cite ∷ cites) = record { constraint = con; cite = ci
 listed_of [] cites = []
 listed_of cons [] = []
 
+-- the constraint of an entry
 abbrev pub constraint_of : Listed → Constraint
 constraint_of l = l.constraint
 
+-- the cite of an entry
 abbrev pub cite_of : Listed → Cite
 cite_of l = l.cite
 

@@ -23,6 +23,7 @@ pub record IsListing (above : ℕ → ℕ → Bool) (faces listing : List ℕ) :
 abbrev pub CanBeListed : (ℕ → ℕ → Bool) → List ℕ → Type 0
 CanBeListed above faces = (listing : List ℕ) × IsListing above faces listing
 
+-- overlapping faces have an order, and over every place and on both sides of every plain border place it puts the faces in a row
 pub record IsStacking (g : Sheet) (above : ℕ → ℕ → Bool) : Type 0 where
   pub orders : OrdersOverlaps g above
   -- over every place, and on both sides of every plain border place

@@ -15,9 +15,11 @@ use Rattle.ff_types.specs.Cites.{lesser, greater, on_one_side}
 abbrev pub matching : Sheet → ℕ → ℕ → ℕ → ℕ
 matching g e f k = if on_one_side g e (f ∷ lesser g k ∷ []) then lesser g k else greater g k
 
+-- the face of the edge k on the other side of e than the face f
 abbrev pub opposed : Sheet → ℕ → ℕ → ℕ → ℕ
 opposed g e f k = if on_one_side g e (f ∷ lesser g k ∷ []) then greater g k else lesser g k
 
+-- the family of constraints that a cite is of
 abbrev pub kind_of : Cite → Kind
 kind_of (Transitivity f g h at) = kind.Transitivity
 kind_of (TacoTaco e k) = kind.TacoTaco

@@ -16,6 +16,7 @@ in_turn a b c = (int_lt (pos 0) (cross a b) && int_lt (pos 0) (cross b c))
     || ((int_lt (pos 0) (cross b c) && int_lt (pos 0) (cross c a))
     || (int_lt (pos 0) (cross c a) && int_lt (pos 0) (cross a b)))
 
+-- the way from one vertex to another
 abbrev pub direction : List Pt → ℕ → ℕ → Pt
 direction points v u = minus (point_at points u) (point_at points v)
 
@@ -41,6 +42,7 @@ pub record IsRingWalk (points : List Pt) (edges : List EdgeEnds) (walk : List �
   pub walk_is : IsWalk points edges walk
   pub round : pos 0 <ℤ area points walk
 
+-- the side left of the way from u to v is outside: the walk that goes there has no positive area
 pub record IsOuterSide (points : List Pt) (edges : List EdgeEnds) (u v : ℕ) : Type 0 where
   pub walk : List ℕ
   pub walk_is : IsWalk points edges walk

@@ -1,5 +1,5 @@
 -- In lowest terms a place has one triple of numbers: so `meet` and `corner` have one answer each.
-use Rattle.std.proofs.Common.{◌≡◌, ◌≢◌, ◌⊎◌, inl, inr, ℕ, zero, suc, ◌+◌, ◌-◌, ◌*◌, ◌<◌, ◌≤◌, arith, refl, sym, ap, ◌∙◌, subst, ℤ, pos, ◌-ℤ◌, ◌*ℤ◌, ◌<ℤ◌, unsigned_abs, [], ◌∷◌}
+use Rattle.std.proofs.Common.{◌≡◌, ◌≢◌, inl, inr, ℕ, zero, suc, ◌+◌, ◌-◌, ◌*◌, ◌≤◌, arith, refl, sym, ap, ◌∙◌, subst, ℤ, pos, ◌-ℤ◌, ◌*ℤ◌, ◌<ℤ◌, unsigned_abs, [], ◌∷◌}
 use Prim.Native.Nat.{◌∣◌}
 use Rattle.std.specs.Int.{IsGcd}
 use Rattle.std.proofs.lemmas.Nat.Gcd.{IsGcd-from_zero, IsGcd-swap, IsGcd-from_sub, dvd_antisymm}
@@ -7,6 +7,7 @@ use native.Mathlib.Nat.{dvd_trans}
 use Rattle.std.proofs.Math.Nat.{dvd-sub, dvd-mul_left, mul-sub, mul-one}
 use lib.IntN.{*ℤ_comm}
 use Rattle.std.proofs.lemmas.Int.{ints, unsigned_abs-mul}
+use Rattle.std.proofs.lemmas.Bool.{cases_lt}
 use Rattle.ff_whole.proofs.Signs.{linear, zero_from_mul, zero_product, cancel_left}
 use Rattle.ff_whole.proofs.Ring.{var, num, ◌⊖◌, ◌⊗◌, opp, solve_from}
 use Rattle.ff_whole.proofs.Formulas.{line_e, line_env, place_e, place_env, height_e}
@@ -15,11 +16,6 @@ use Rattle.ff_whole.specs.Meeting.{HasNoDivisor, IsMeet, IsCorner}
 use Rattle.ff_whole.specs.Places.{IsPlace}
 use Rattle.ff_whole.specs.declared.lines.Line.{Line}
 use Rattle.ff_whole.specs.declared.places.Place.{Place}
-
-le_or : (i n : ℕ) → (i < n) ⊎ (n ≤ i)
-le_or i zero = inr (omega arith)
-le_or zero (suc n) = inl (omega arith)
-le_or (suc i) (suc n) = elim (le_or i n) [ inl y ↦ inl (omega arith) | inr z ↦ inr (omega arith) ]
 
 -- the greatest common divisor of a and b, of which N divides m times where it divides m times both
 pub record HasDivisor (N m a b : ℕ) : Type 0 where
@@ -32,7 +28,7 @@ divisor_of N m fuel a zero l p q = record { divisor = a; greatest = IsGcd-from_z
 divisor_of N m fuel zero (suc b) l p q =
     record { divisor = suc b; greatest = IsGcd-swap (suc b) zero (suc b) (IsGcd-from_zero (suc b) zero refl); divides = q }
 divisor_of N m zero (suc a) (suc b) l p q = absurd (omega arith)
-divisor_of N m (suc fuel) (suc a) (suc b) l p q = elim (le_or (suc a) (suc b)) [
+divisor_of N m (suc fuel) (suc a) (suc b) l p q = elim (cases_lt (suc a) (suc b)) [
   | inr h ↦
       let r = divisor_of N m fuel (suc a - suc b) (suc b) (omega arith) (less (suc a) (suc b) p q) q in
       record { divisor = r.divisor; greatest = IsGcd-from_sub (suc a) (suc b) r.divisor h r.greatest; divides = r.divides }

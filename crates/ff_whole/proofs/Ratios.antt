@@ -1,9 +1,11 @@
 -- The least of finitely many ratios.
-use Rattle.std.proofs.Common.{suc, get_or, refl, arith, ℤ, pos, ◌*ℤ◌, ◌<ℤ◌, ◌≤ℤ◌, List, [], ◌∷◌}
+use Rattle.std.proofs.Common.{refl, arith, ℤ, pos, ◌*ℤ◌, ◌<ℤ◌, ◌≤ℤ◌, List, [], ◌∷◌}
 use lib.Signed.{≤ℤ_refl}
 use Rattle.std.specs.List.{All, Contains}
 use Rattle.std.proofs.lemmas.Int.{by_lt_z}
-use Rattle.std.proofs.lemmas.List.Elements.{All-nil, All-cons, All-tail, All-contains, Contains-get_or}
+use Rattle.std.proofs.lemmas.List.Elements.{All-nil, All-cons, All-tail, All-contains}
+use Rattle.ff_basics.proofs.Lists.{each_from}
+use Rattle.ff_basics.proofs.Memberships.{later_member}
 use Rattle.ff_whole.proofs.Ring.{var, ◌⊗◌, solve}
 use Rattle.ff_whole.proofs.Signs.{linear, le-mul_left, le_from_mul}
 
@@ -26,14 +28,8 @@ at_most_trans u v x y z f g h k l = by (u x) (v x) (u y) (v y) (u z) (v z) f g h
         let i = solve env (var 1 ⊗ (var 4 ⊗ var 3)) (var 3 ⊗ (var 4 ⊗ var 1)) refl in
         le_from_mul q (a *ℤ r) (c *ℤ p) g (omega (arith, linear))
 
-All-by : {X : Type 0} (P : X → Type 0) (xs : List X) → ((x : X) → Contains xs x → P x) → All P xs
-All-by P xs h = λ k d lt. h (get_or xs k d) (Contains-get_or xs k d lt)
-
 here : {X : Type 0} (x : X) (xs : List X) → Contains (x ∷ xs) x
 here x xs = (0, omega arith, refl)
-
-later : {X : Type 0} (x : X) (xs : List X) (y : X) → Contains xs y → Contains (x ∷ xs) y
-later x xs y h = let lt = h.1 in (suc h.0, omega arith, h.2)
 
 -- one of finitely many ratios with positive denominators is the least
 pub least_ratio : {X : Type 0} (u v : X → ℤ) (x : X) (xs : List X) → All (λ y. pos 0 <ℤ v y) (x ∷ xs)
@@ -51,6 +47,6 @@ least_ratio {X} u v x (z ∷ zs) h = pick (least_ratio u v z zs (All-tail (λ y.
           x,
           here x (z ∷ zs),
           All-cons (AtMost u v x) x (z ∷ zs) (≤ℤ_refl _)
-              (All-by (AtMost u v x) (z ∷ zs) (λ t c. at_most_trans u v x y t (positive x (here x (z ∷ zs))) (positive y (later x (z ∷ zs) y r.1)) (positive t (later x (z ∷ zs) t c)) (omega (arith, linear)) (All-contains (AtMost u v y) (z ∷ zs) t r.2 c))),
+              (each_from (AtMost u v x) (z ∷ zs) (λ t c. at_most_trans u v x y t (positive x (here x (z ∷ zs))) (positive y (later_member x (z ∷ zs) y r.1)) (positive t (later_member x (z ∷ zs) t c)) (omega (arith, linear)) (All-contains (AtMost u v y) (z ∷ zs) t r.2 c))),
         ))
-        (λ more. (y, later x (z ∷ zs) y r.1, All-cons (AtMost u v y) x (z ∷ zs) more r.2))
+        (λ more. (y, later_member x (z ∷ zs) y r.1, All-cons (AtMost u v y) x (z ∷ zs) more r.2))

@@ -1,10 +1,7 @@
 -- Searching the numbers below n, and rows of numbers below n.
 use Rattle.std.proofs.Common.{◌≡◌, ◌⊎◌, inl, inr, ℕ, zero, suc, ◌<◌, arith, sym, subst, ℤ, pos, ◌+ℤ◌, ◌<ℤ◌, ◌≤ℤ◌}
-use Rattle.std.proofs.Math.Nat.{eq-or-lt_of_le}
+use Rattle.ff_basics.proofs.Numbers.{below_or_last}
 use Rattle.ff_whole.proofs.Signs.{linear}
-
-below_or_last : (n i : ℕ) → i < suc n → (i < n) ⊎ (i ≡ n)
-below_or_last n i h = elim (eq-or-lt_of_le h) [ inl e ↦ inr (omega arith) | inr l ↦ inl (omega arith) ]
 
 -- one below n has the one fact, or all have the other
 pub search : (n : ℕ) (P N : ℕ → Type 0) → ((i : ℕ) → i < n → P i ⊎ N i)

@@ -9,6 +9,7 @@ use Rattle.ff_whole.specs.declared.lines.Line.{Line}
 abbrev pub IsPlace : Place → Type 0
 IsPlace s = pos 0 <ℤ s.w
 
+-- a point as a place
 abbrev pub place_of : Pt → Place
 place_of p = record { x = p.x; y = p.y; w = pos 1 }
 

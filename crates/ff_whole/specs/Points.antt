@@ -9,6 +9,7 @@ pub record IsNear (p : Pt) : Type 0 where
   pub x_below : IsBelow POINT_SIZE p.x
   pub y_below : IsBelow POINT_SIZE p.y
 
+-- the point 0,0
 abbrev pub origin : Pt
 origin = record { x = pos 0; y = pos 0 }
 
@@ -16,6 +17,7 @@ origin = record { x = pos 0; y = pos 0 }
 abbrev pub minus : Pt → Pt → Pt
 minus q p = record { x = q.x -ℤ p.x; y = q.y -ℤ p.y }
 
+-- the dot product
 abbrev pub dot : Pt → Pt → ℤ
 dot u v = (u.x *ℤ v.x) +ℤ (u.y *ℤ v.y)
 

@@ -2,15 +2,18 @@
 #![tactic(auto)]
 
 mod convex;
+
 mod divisors;
 mod heights;
 mod lines;
 mod meeting;
 mod places;
 mod points;
+mod rectangles;
 mod sizes;
 
 pub use convex::{is_convex, next_place};
+pub use rectangles::{high_of, low_of};
 pub use divisors::{gcd, reduced};
 pub use heights::{cmp_height, corner};
 pub use lines::{Line, side_of, through};

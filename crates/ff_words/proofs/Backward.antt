@@ -7,6 +7,7 @@ use Rattle.std.specs.Prelude.{option_map, option_and_then}
 use Rattle.std.specs.List.{list_all}
 use Rattle.std.specs.Char.{is_ascii_digit}
 use Rattle.std.specs.Str.{bytes_eq}
+use Rattle.ff_basics.proofs.Tests.{and_true}
 use Rattle.clap.specs.Lexer.{long_of, short_of, strip_byte, long_of_rest, short_of_rest}
 use Rattle.clap.specs.Walk.{Text, has_row}
 use Rattle.clap.specs.Kinds.{or_else}
@@ -67,21 +68,17 @@ chosen : {A : Type 0} (b : Bool) (x y z : A) → cond b x y ≡ z → ((b ≡ tr
 chosen true x y z h = inl (refl, h)
 chosen false x y z h = inr (refl, h)
 
-both : (a b : Bool) → (a && b) ≡ true → (a ≡ true) × (b ≡ true)
-both true b h = (refl, h)
-both false b h = absurd (true≢false (sym h))
-
 digits_bare : (t : Text) → list_all is_ascii_digit t ≡ true → is_bare t ≡ true
 digits_bare [] h = refl
 digits_bare (x ∷ xs) h = go (x == 45) refl
   where
     go : (b : Bool) → (x == 45) ≡ b → not b ≡ true
     go false e = refl
-    go true e = let d = (both (is_ascii_digit x) _ h).0 in let n : x ≡ 45 = eqb-true x 45 e in absurd (true≢false (sym d ∙ ap is_ascii_digit n))
+    go true e = let d = (and_true (is_ascii_digit x) _ h).0 in let n : x ≡ 45 = eqb-true x 45 e in absurd (true≢false (sym d ∙ ap is_ascii_digit n))
 
 number_bare : (most : ℕ) (t : Text) (n : ℕ) → number most t ≡ Some n → is_bare t ≡ true
 number_bare most t n h = elim (chosen (is_number most t) _ _ _ h) [
-  | inl e ↦ digits_bare t (both _ _ (both _ _ (both _ _ e.0).1).1).0
+  | inl e ↦ digits_bare t (and_true _ _ (and_true _ _ (and_true _ _ e.0).1).1).0
   | inr e ↦ cc
 ]
 
@@ -110,7 +107,7 @@ solve_small bs ks j h = elim (chosen (is_empty ks) _ _ _ h) [
 
 check_small : (bs ks : List Text) (j : Job) → check_job bs ks ≡ Some j → Small bs × Small ks
 check_small bs ks j h = elim (chosen (is_empty bs && is_empty ks) _ _ _ h) [
-  | inl e ↦ let es = both (is_empty bs) (is_empty ks) e.0 in (empty_small bs es.0, empty_small ks es.1)
+  | inl e ↦ let es = and_true (is_empty bs) (is_empty ks) e.0 in (empty_small bs es.0, empty_small ks es.1)
   | inr e ↦ cc
 ]
 

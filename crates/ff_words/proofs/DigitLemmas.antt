@@ -8,11 +8,8 @@ use Rattle.std.specs.List.{list_all}
 use Rattle.std.specs.Int.{IsInRange}
 use Rattle.std.specs.Char.{is_ascii_digit}
 use Rattle.std.specs.Str.Parse.{ParsesUnsigned, IsNumeral, AllDigits, digits_value, without_leading_plus}
+use Rattle.ff_basics.proofs.Tests.{and_true}
 use Rattle.ff_words.specs.Form.{Text, is_number, number}
-
-both : (a b : Bool) → (a && b) ≡ true → (a ≡ true) × (b ≡ true)
-both true b h = (refl, h)
-both false b h = absurd (true≢false (sym h))
 
 digit_in : (c : ℕ) → is_ascii_digit c ≡ true → IsInRange 48 57 c
 digit_in c h = grind (arith, nat_tests)
@@ -24,12 +21,12 @@ digits_plain (x ∷ xs) h = go (x == 43) refl
   where
     go : (b : Bool) → (x == 43) ≡ b → drop (cond b 1 0) (x ∷ xs) ≡ x ∷ xs
     go false e = refl
-    go true e = let d = digit_in x (both (is_ascii_digit x) (list_all is_ascii_digit xs) h).0 in let n : x ≡ 43 = eqb-true x 43 e in absurd (omega arith)
+    go true e = let d = digit_in x (and_true (is_ascii_digit x) (list_all is_ascii_digit xs) h).0 in let n : x ≡ 43 = eqb-true x 43 e in absurd (omega arith)
 
 pub digits_all : (t : Text) → list_all is_ascii_digit t ≡ true → AllDigits 10 t
 digits_all [] h = tt
 digits_all (x ∷ xs) h =
-    let hs = both (is_ascii_digit x) (list_all is_ascii_digit xs) h in
+    let hs = and_true (is_ascii_digit x) (list_all is_ascii_digit xs) h in
     let d = digit_in x hs.0 in
     let e = digit_value_digit x d in
     (omega arith, digits_all xs hs.1)
@@ -53,6 +50,6 @@ number_refused most t r e d l p lt is = go (is_number most t) refl
     go false h = refl
     go true h =
         let q = subst (ParsesUnsigned 64 10 t) is p in
-        let within = leb-true (digits_value 10 t) most (both (nat_le 1 (digits_value 10 t)) _ (both (list_all is_ascii_digit t) _ (both (nat_le (length t) 10) _ (both (nat_lt 0 (length t)) _ h).1).1).1).1 in
+        let within = leb-true (digits_value 10 t) most (and_true (nat_le 1 (digits_value 10 t)) _ (and_true (list_all is_ascii_digit t) _ (and_true (nat_le (length t) 10) _ (and_true (nat_lt 0 (length t)) _ h).1).1).1).1 in
         let plain = digits_plain t d in
         absurd (q (subst (λ (u : Text). IsNumeral 10 u × (digits_value 10 u < 2 ^ 64)) (sym plain) ((l, digits_all t d), omega arith)))

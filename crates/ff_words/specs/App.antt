@@ -13,17 +13,21 @@ use Rattle.ff_words.specs.Form.{Text, job_at}
 use Rattle.ff_words.specs.declared.jobs.WordsNo.{WordsNo}
 use Rattle.ff_words.specs.declared.jobs.WordsNo.TheVariants as no
 
+-- an option with a long name
 abbrev pub long_rule : Text → Rule
 long_rule id = record (new_rule id) { long = Some id }
 
+-- the program's name, without help
 abbrev pub plain_app : App
 plain_app = record (new_app (codes "flatfold")) {
   top = record ((new_app (codes "flatfold")).top) { no_binary_name = true; disable_help_flag = true };
 }
 
+-- the two words and the two options
 abbrev pub app : App
 app = with_rule (with_rule (with_rule (with_rule plain_app (new_rule (codes "mode"))) (new_rule (codes "count"))) (long_rule (codes "budget"))) (long_rule (codes "workers"))
 
+-- the word, where there is one
 abbrev pub listed : Option Text → List Text
 listed None = []
 listed (Some t) = t ∷ []
@@ -33,6 +37,7 @@ abbrev pub words_found : Option Text → Option Text → List Text
 words_found None c = []
 words_found (Some w) c = w ∷ listed c
 
+-- clap's error as ours
 abbrev pub kind_no : ErrorKind → WordsNo
 kind_no kind.OutOfMemory = no.NoMemory
 kind_no _ = no.Usage

@@ -1,6 +1,6 @@
 use Rattle.std.proofs.Common.{◌==◌, ◌∙◌, ap, arith}
 use Rattle.std.proofs.lemmas.Bool.{false≢true, eqb-true}
-use Rattle.ff_types.proofs.Computing.{equal_itself}
+use Rattle.ff_basics.proofs.Numbers.{same_number}
 use Rattle.ff_drawn.proofs.TwoDarts.{two_from_darts, darts_from_two}
 use Rattle.ff_drawn.proofs.leaving.has_two_edges.Goals as goal
 
@@ -17,5 +17,5 @@ returns c =
     let l = r.within in
     let s = r.starts.each c.args.v (omega (arith, l)) in (
       λ h. two_from_darts _ _ _ r.graph r.darts _ _ s c.if-start-darts.false (eqb-true _ _ h),
-      λ h. ap (λ t. t == c.args.v) (darts_from_two _ _ _ r.graph r.darts _ _ s h).1 ∙ equal_itself c.args.v,
+      λ h. ap (λ t. t == c.args.v) (darts_from_two _ _ _ r.graph r.darts _ _ s h).1 ∙ same_number c.args.v,
     )

@@ -1,7 +1,7 @@
 use Rattle.std.proofs.Common.{ℕ, List, ◌≡◌, ◌<◌, ◌≤◌, refl, arith, subst, sym, ap, slice_index, length}
+use Rattle.ff_basics.specs.NumberedLists.{lists_in}
 use Rattle.ff_propagate.specs.Facts.{value_at}
 use Rattle.ff_propagate.specs.Parts.{AreParts}
-use Rattle.ff_parts.specs.Gathers.{lists_in}
 use Rattle.ff_parts.specs.Marks.{AreMarks}
 use Rattle.ff_parts.proofs.Classes.{found_parts, labels_within}
 use Rattle.ff_parts.proofs.Gathered.{gathered}

@@ -1,5 +1,5 @@
 use Rattle.std.proofs.Common.{rules, ap, ◌∙◌}
-use Rattle.ff_parts.specs.Gathers.{lists_in}
+use Rattle.ff_basics.specs.NumberedLists.{lists_in}
 use Rattle.ff_parts.proofs.Zipped.{paired}
 use Rattle.ff_parts.proofs.finding.wrap.Goals as goal
 

@@ -1,6 +1,6 @@
 use Rattle.std.proofs.Common.{◌≡◌, ◌≤◌, map, length}
 use Rattle.std.specs.Vec.{vec_capacity, vec_len}
-use Rattle.ff_parts.specs.Gathers.{lists_in}
+use Rattle.ff_basics.specs.NumberedLists.{lists_in}
 use Rattle.ff_parts.specs.Lists.{vars_of, touching_of}
 use Rattle.ff_parts.proofs.finding.wrap.Given as goal
 

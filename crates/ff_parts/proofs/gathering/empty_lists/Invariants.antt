@@ -1,6 +1,6 @@
 use Rattle.std.proofs.Common.{◌≡◌, ◌≤◌, [], replicate}
 use Rattle.std.specs.Vec.{vec_capacity}
-use Rattle.ff_parts.specs.Gathers.{lists_in}
+use Rattle.ff_basics.specs.NumberedLists.{lists_in}
 use Rattle.ff_parts.proofs.gathering.empty_lists.Given as goal
 
 abbrev pub invariant-loop-k : goal.invariant-loop-k

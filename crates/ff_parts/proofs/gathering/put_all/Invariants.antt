@@ -1,5 +1,6 @@
 use Rattle.std.proofs.Common.{length}
-use Rattle.ff_parts.specs.Gathers.{lists_in, Gathers}
+use Rattle.ff_basics.specs.NumberedLists.{lists_in}
+use Rattle.ff_parts.specs.Gathers.{Gathers}
 use Rattle.ff_parts.proofs.gathering.put_all.Given as goal
 
 abbrev pub invariant-loop-number : goal.invariant-loop-number

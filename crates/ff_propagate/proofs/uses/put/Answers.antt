@@ -1,4 +1,4 @@
-use Rattle.ff_propagate.proofs.Listing.{put_one}
+use Rattle.ff_basics.proofs.NumberedLists.{put_one}
 use Rattle.ff_propagate.proofs.uses.put.Goals as goal
 
 pub returns : goal.returns

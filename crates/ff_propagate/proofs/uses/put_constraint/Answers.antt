@@ -1,9 +1,10 @@
 use Rattle.std.proofs.Common.{◌<◌, ◌∷◌, ◌++◌, [], ◌∙◌, ℕ, List, ap, sym, subst, arith, length}
 use Rattle.std.proofs.lemmas.List.{length-set}
+use Rattle.ff_basics.proofs.NumberedLists.{length_in}
+use Rattle.ff_basics.specs.NumberedLists.{list_at, lists_in}
 use Rattle.ff_tables.specs.declared.terms.Term.{Term}
 use Rattle.ff_tables.specs.Orders.{term_at}
-use Rattle.ff_propagate.specs.Uses.{lists_in, list_at}
-use Rattle.ff_propagate.proofs.Listing.{length_in, put_more, put_all}
+use Rattle.ff_propagate.proofs.Listing.{put_more, put_all}
 use Rattle.ff_propagate.proofs.uses.put_constraint.Goals as goal
 
 pub loop-j-preserved : goal.loop-j-preserved

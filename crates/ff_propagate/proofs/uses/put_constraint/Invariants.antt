@@ -1,5 +1,5 @@
 use Rattle.std.proofs.Common.{◌≡◌, length}
-use Rattle.ff_propagate.specs.Uses.{lists_in}
+use Rattle.ff_basics.specs.NumberedLists.{lists_in}
 use Rattle.ff_propagate.proofs.Listing.{IsPut}
 use Rattle.ff_propagate.proofs.uses.put_constraint.Given as goal
 

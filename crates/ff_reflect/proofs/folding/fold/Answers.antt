@@ -7,7 +7,7 @@ use Rattle.ff_reflect.specs.Sheets.{paper_of}
 use Rattle.ff_reflect.specs.Trees.{order_along}
 use Rattle.ff_reflect.specs.Walked.{met_of}
 use Rattle.ff_reflect.specs.Standing.{IsReady, IsStanding}
-use Rattle.ff_reflect.specs.Folding.{WhyNotFolded}
+use Rattle.ff_reflect.specs.Folding.{WhyNoFolding}
 use Rattle.ff_reflect.proofs.Assembly.{met_below, tree_below, below_read, parity_read, ready_read, folding_read, scale_below, why_not}
 use Rattle.ff_reflect.proofs.folding.fold.Goals as goal
 
@@ -30,7 +30,7 @@ place-requires-clause-ready c =
 
 pub returns-in_err-placed : goal.returns-in_err-placed
 returns-in_err-placed c =
-    let why : WhyNotFolded c.args.pattern.now c.args.faces.now c.in_err-placed.field-0.0 = why_not c.args.pattern.now c.args.faces.now c.in_err-placed.field-0.0 (record { drawing = c.requires.drawing; faces = c.requires.faces }) c.in_err-placed.ensures in
+    let why : WhyNoFolding c.args.pattern.now c.args.faces.now c.in_err-placed.field-0.0 = why_not c.args.pattern.now c.args.faces.now c.in_err-placed.field-0.0 (record { drawing = c.requires.drawing; faces = c.requires.faces }) c.in_err-placed.ensures in
     search (rules, why)
 
 pub returns : goal.returns

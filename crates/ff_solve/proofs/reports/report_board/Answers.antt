@@ -3,7 +3,7 @@ use Rattle.std.proofs.lemmas.List.{length-map}
 use Rattle.ff_propagate.specs.declared.parts.Part.{Part}
 use Rattle.ff_propagate.specs.Facts.{value_at}
 use Rattle.ff_propagate.specs.Parts.{IsPart, AreTouching}
-use Rattle.ff_solve.specs.Lines.{last_of, parts_line}
+use Rattle.ff_report.specs.Lines.{last_of, parts_line}
 use Rattle.ff_solve.specs.Outcomes.{AreOutcomes}
 use Rattle.ff_solve.proofs.Lists.{few_parts}
 use Rattle.ff_solve.proofs.Boards.{report_of_board, text_as}

@@ -1,7 +1,9 @@
 use Rattle.std.proofs.Common.{◌≡◌, sym, ap, ◌∙◌, subst, length, []}
 use Rattle.std.proofs.lemmas.List.{length-replicate}
-use Rattle.ff_trans.specs.Rows.{lists_in, AreIndexed}
-use Rattle.ff_trans.proofs.Indexes.{length_in, index_none, whole}
+use Rattle.ff_basics.proofs.NumberedLists.{length_in}
+use Rattle.ff_basics.specs.NumberedLists.{lists_in}
+use Rattle.ff_trans.specs.Rows.{AreIndexed}
+use Rattle.ff_trans.proofs.Indexes.{index_none, whole}
 use Rattle.ff_trans.proofs.index.index.Goals as goal
 
 pub put_cells-requires-clause-empty : goal.put_cells-requires-clause-empty

@@ -1,4 +1,4 @@
-use Rattle.ff_trans.proofs.Indexes.{put_one}
+use Rattle.ff_basics.proofs.NumberedLists.{put_one}
 use Rattle.ff_trans.proofs.index.put.Goals as goal
 
 pub returns : goal.returns

@@ -1,6 +1,7 @@
 use Rattle.std.proofs.Common.{◌<◌, sym, subst, slice_index}
-use Rattle.ff_trans.specs.Rows.{lists_in}
-use Rattle.ff_trans.proofs.Indexes.{put_more, length_in}
+use Rattle.ff_basics.proofs.NumberedLists.{length_in}
+use Rattle.ff_basics.specs.NumberedLists.{lists_in}
+use Rattle.ff_trans.proofs.Indexes.{put_more}
 use Rattle.ff_trans.proofs.index.put_cell.Goals as goal
 
 pub loop-j-preserved : goal.loop-j-preserved

@@ -1,4 +1,5 @@
-use Rattle.ff_trans.specs.Rows.{lists_in, IsPut}
+use Rattle.ff_basics.specs.NumberedLists.{lists_in}
+use Rattle.ff_trans.specs.Rows.{IsPut}
 use Rattle.ff_trans.proofs.index.put_cell.Given as goal
 
 abbrev pub invariant-loop-j : goal.invariant-loop-j

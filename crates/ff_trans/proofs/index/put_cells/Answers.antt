@@ -1,8 +1,9 @@
 use Rattle.std.proofs.Common.{◌≡◌, ◌∙◌, sym, ap, subst, length, Some, slice_get}
 use Rattle.std.specs.List.Sorted.{IsStrictlyIncreasing}
 use Rattle.std.proofs.lemmas.Option.{slice_get-get_or}
+use Rattle.ff_basics.specs.NumberedLists.{lists_in}
 use Rattle.ff_cells.specs.declared.cell.Cell.{Cell}
-use Rattle.ff_trans.specs.Rows.{lists_in, IsPut}
+use Rattle.ff_trans.specs.Rows.{IsPut}
 use Rattle.ff_trans.proofs.Indexes.{index_more}
 use Rattle.ff_trans.proofs.index.put_cells.Goals as goal
 

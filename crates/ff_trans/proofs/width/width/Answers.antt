@@ -1,9 +1,9 @@
 use Rattle.std.proofs.Common.{◌≡◌, inl, inr, ◌<◌, arith, sym, ap, subst, ◌∙◌, get_or, Some, slice_get}
 use Rattle.std.specs.List.{All}
-use Rattle.std.proofs.lemmas.Option.{slice_get-get_or}
+use Rattle.std.proofs.lemmas.Option.{slice_get-get_or, same_Some}
+use Rattle.ff_basics.proofs.Numbers.{last_or}
 use Rattle.ff_types.specs.declared.limits.TheConstants.{MOST_FACES as most_faces}
 use Rattle.ff_cells.specs.declared.cell.Cell.{Cell}
-use Rattle.ff_trans.proofs.Marks.{below_or, some_is}
 use Rattle.ff_trans.proofs.width.width.Goals as goal
 
 pub past-width-requires-clause-few : goal.past-width-requires-clause-few
@@ -19,9 +19,9 @@ loop-k-preserved c =
     let this : All (λ f. f < c.past-width.result) cell.faces = subst (λ xs. All (λ f. f < c.past-width.result) xs) same c.past-width.ensures.faces in
     record {
       few = c.past-width.ensures.few;
-      faces = λ i d l e. elim (below_or i k l) [
+      faces = λ i d l e. elim (last_or i k l) [
         | inl m ↦ (λ j dd b. (let a = inv.faces i d m e j dd b in let le = c.past-width.ensures.least in omega (arith, a, le)))
-        | inr m ↦ subst (λ (z : Cell). All (λ f. f < c.past-width.result) z.faces) (some_is cell d (sym at ∙ ap (slice_get cells) (sym m) ∙ e)) this
+        | inr m ↦ subst (λ (z : Cell). All (λ f. f < c.past-width.result) z.faces) (same_Some cell d (sym at ∙ ap (slice_get cells) (sym m) ∙ e)) this
       ];
     }
 

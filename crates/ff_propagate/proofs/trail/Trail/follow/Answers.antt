@@ -1,8 +1,9 @@
 use Rattle.std.proofs.Common.{◌+◌, ◌<◌, arith, subst, refl, length, slice_index, List}
+use Rattle.ff_basics.proofs.Options.{same_value}
 use Rattle.ff_tables.specs.declared.terms.Constraint.{Constraint}
 use Rattle.ff_propagate.specs.Trails.{Rests}
 use Rattle.ff_propagate.proofs.TrailSteps.{grows_trans}
-use Rattle.ff_propagate.proofs.TrailVisits.{visits, same_con, con_read}
+use Rattle.ff_propagate.proofs.TrailVisits.{visits, con_read}
 use Rattle.ff_propagate.proofs.trail.Trail.follow.Goals as goal
 
 pub examine-requires-clause-con : goal.examine-requires-clause-con
@@ -32,5 +33,5 @@ loop-k-preserved c =
           c.loop-k.invariant.2
           (λ con is.
           subst (λ (d : Constraint). Rests c.examine.new.self (length c.loop-k.self.steps.items) d)
-          (same_con here is) (c.examine.ensures.rests c.if-examine.false)),
+          (same_value here is) (c.examine.ensures.rests c.if-examine.false)),
     )

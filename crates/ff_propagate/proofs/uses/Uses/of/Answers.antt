@@ -1,7 +1,7 @@
 use Rattle.std.proofs.Common.{◌<◌, ℕ, sym, subst, length, slice_index, List, arith}
 use Rattle.std.proofs.lemmas.Option.{slice_get_within}
+use Rattle.ff_basics.proofs.NumberedLists.{read_at}
 use Rattle.ff_propagate.specs.Uses.{IsUse, IsIn}
-use Rattle.ff_propagate.proofs.Listing.{read_at}
 use Rattle.ff_propagate.proofs.uses.Uses.of.Goals as goal
 
 pub returns-clause-below : goal.returns-clause-below

@@ -1,6 +1,6 @@
 //! The lines of a report besides its head and its parts.
 ghost use Rattle.std.specs.Prelude.{◌≡◌, ◌++◌, IfOk, OnOk, string_bytes};
-ghost use Rattle.ff_solve.specs.Lines.{clash_line, parts_line, last_line};
+ghost use Rattle.ff_report.specs.Lines.{clash_line, parts_line, last_line};
 
 use ff_tables::{NoMemory, Text};
 use std::alloc::{AllocError, Global};

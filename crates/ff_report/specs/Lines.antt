@@ -10,25 +10,29 @@ use Rattle.ff_report.specs.declared.parts.PartOutcome.{PartOutcome}
 use Rattle.ff_report.specs.declared.parts.PartOutcome.TheVariants as outcome
 use Rattle.ff_report.specs.Heads.{lines_of, head}
 use Rattle.ff_report.specs.Parts.{part_lines}
-use Rattle.ff_solve.specs.declared.texts.Last.{Last}
-use Rattle.ff_solve.specs.declared.texts.Last.TheVariants.{Done, Impossible, Unfinished}
+use Rattle.ff_report.specs.declared.lines.Last.{Last}
+use Rattle.ff_report.specs.declared.lines.Last.TheVariants.{Done, Impossible, Unfinished}
 
 -- `parts M`
 abbrev pub parts_line : ℕ → List ℕ
 parts_line count = codes "parts " ++ decimal count ++ codes "\n"
 
+-- where the closure clashes
 abbrev pub clash_line : List ℕ
 clash_line = codes "clash\n"
 
+-- how the report ends
 abbrev pub last_line : Last → List ℕ
 last_line Done = codes "done\n"
 last_line Impossible = codes "impossible\n"
 last_line Unfinished = codes "unfinished\n"
 
+-- the part has no solution
 abbrev pub is_none : PartOutcome → Bool
 is_none outcome.None = true
 is_none _ = false
 
+-- the part's search was cut off by the budget
 abbrev pub is_unfinished : PartOutcome → Bool
 is_unfinished outcome.Unfinished = true
 is_unfinished _ = false

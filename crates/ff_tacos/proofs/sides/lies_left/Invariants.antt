@@ -1,7 +1,0 @@
-use Rattle.std.proofs.Common.{ℕ, ◌<◌, pos, ◌≤ℤ◌, slice_index}
-use Rattle.ff_whole.specs.Points.{turn}
-use Rattle.ff_whole.specs.Convex.{point_at}
-use Rattle.ff_tacos.proofs.sides.lies_left.Given as goal
-
-abbrev pub invariant-loop-i : goal.invariant-loop-i
-invariant-loop-i l = (k : ℕ) → k < l.i → pos 0 ≤ℤ turn l.p l.q (point_at l.points (slice_index l.ring k))
