@@ -32,7 +32,7 @@ use Rattle.ff_reflect.specs.Sheets.{paper_of}
 use Rattle.ff_reflect.specs.Laws.{IsSameFolding}
 use Rattle.ff_reflect.proofs.OneFolding.{one_folding}
 use Rattle.ff_reflect.proofs.OneRefusal.{one_refusal as one_unfolded_refusal}
-use Rattle.ff_reflect.proofs.Refused.{refused_folds_not, none_near}
+use Rattle.ff_reflect.proofs.Refused.{none_near}
 use Rattle.ff_reflect.specs.Folding.{IsRefused}
 use Rattle.ff_problem.specs.Limits.{RefusesCase, IsWithinLimits}
 use Rattle.ff_problem.specs.Problems.{IsProblem, RefusesAsDrawn}
