@@ -1,6 +1,6 @@
 mod Reports
 mod Building
-mod Coming
+pub mod Coming
 mod Deciding
 mod Closures
 mod Classes
