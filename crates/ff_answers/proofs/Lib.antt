@@ -1,4 +1,4 @@
-mod Reports
+pub mod Reports
 mod Building
 pub mod Coming
 mod Deciding
