@@ -122,7 +122,7 @@ trail_set vars old v s by new is set l none =
     }
 
 -- what was known before the last step
-same_set : (old : Trail) (v : ℕ) (s : Order) (by : Option ℕ) (new : Trail) → IsStepped old v s by new
+pub same_set : (old : Trail) (v : ℕ) (s : Order) (by : Option ℕ) (new : Trail) → IsStepped old v s by new
     → known old v ≡ None → (m : ℕ) → m ≤ length old.steps.items → (w : ℕ) → cut new m w ≡ cut old m w
 same_set old v s by new set none m k w = ap (λ ss. without (known new) ss w)
     (ap (drop m) set.steps ∙ drop-append-le m old.steps.items (record { var = v; by = by } ∷ []) k)

@@ -99,6 +99,8 @@ impl Trail {
         requires open { known self.old var ≡ None }
         ensures trail { IsTrail vars self.new }
         ensures stepped { IsStepped self.old var value None self.new }
+        ensures within { length self.new.steps.items ≤ vars }
+        ensures same { (m : ℕ) → m ≤ length self.old.steps.items → (v : ℕ) → cut self.new m v ≡ cut self.old m v }
     {
         let _ = vars;
         self.set(var, value, None);

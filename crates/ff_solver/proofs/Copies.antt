@@ -17,7 +17,13 @@ use Rattle.ff_tables.specs.Systems.{AreFit}
 use Rattle.ff_propagate.specs.Parts.{IsPart, AreTouching}
 use Rattle.ff_propagate.proofs.Quiet.{contains_stands}
 use Rattle.ff_solver.specs.Copies.{IsCopiedTerm, IsCopied, HasCopy, IsRising, IsPlace, IsLonger, AreCopied}
-use Rattle.ff_solver.proofs.Visits.{same_con}
+
+same_con : {o : Option Constraint} {a b : Constraint} → o ≡ Some a → o ≡ Some b → a ≡ b
+same_con p q = cc
+
+pub con_read : (cons : List Constraint) (k : ℕ) (con : Constraint) → k < length cons → con ≡ get_or cons k con
+    → slice_get cons k ≡ Some con
+con_read cons k con l is = slice_get-get_or cons k con l ∙ ap (λ d. Some d) (sym is)
 
 rises : (list : List ℕ) → IsRising list → (i j : ℕ) → i ≤ j → j < length list → get_or list i 0 ≤ get_or list j 0
 rises list up i j l m = elim (cases_eq i j) [

@@ -15,7 +15,7 @@ use Rattle.ff_tables.proofs.Agreeing.{forces_more, turn_turn, agrees_tested}
 use Rattle.ff_propagate.specs.Trees.{Tree, Clash, Full, Fork, With, AtNode, IsTreeAt, IsTree, IsClashNode}
 use Rattle.ff_propagate.proofs.Deciding.{has_row-decides, row_or_none}
 use Rattle.ff_propagate.proofs.Quiet.{all_at, all_from, closure_forced}
-use Rattle.ff_solver.specs.Trails.{IsSilent}
+use Rattle.ff_propagate.specs.Trails.{IsSilent}
 use Rattle.ff_solver.specs.Paths.{AreSilent, IsAtNode}
 use Rattle.ff_solver.proofs.Inverting.{dead_clash, settled, calm}
 use Rattle.ff_solver.proofs.Branching.{node_set}

@@ -1,9 +1,6 @@
 mod Lists
 pub mod Nodes
 pub mod Listing
-mod Setting
-mod Undoing
-mod Visits
 pub mod Branching
 pub mod Inverting
 mod Visited

@@ -8,7 +8,7 @@ use Rattle.ff_tables.specs.declared.terms.Constraint.{Constraint}
 use Rattle.ff_tables.specs.declared.systems.System.{System}
 use Rattle.ff_propagate.specs.declared.parts.Part.{Part}
 use Rattle.ff_propagate.specs.Trees.{Tree, Clash, Full, Fork, visits}
-use Rattle.ff_solver.specs.declared.trail.Trail.{Trail}
+use Rattle.ff_propagate.specs.declared.trail.Trail.{Trail}
 use Rattle.ff_solver.specs.declared.path.Path.{Path}
 use Rattle.ff_solver.specs.declared.state.Search.{Search}
 use Rattle.ff_solver.specs.declared.state.Advance.TheVariants.{Found, Spent}

@@ -13,11 +13,11 @@ use Rattle.ff_propagate.specs.Closing.{ClosesTo}
 use Rattle.ff_propagate.specs.Parts.{IsPart, AreTouching}
 use Rattle.ff_propagate.specs.Solutions.{solutions_of}
 use Rattle.ff_propagate.specs.Uses.{AreUses}
+use Rattle.ff_propagate.specs.Trails.{known, value_in, IsTrail, AreReady}
 use Rattle.ff_propagate.specs.Trees.{IsTree, visits}
 use Rattle.ff_propagate.proofs.Quiet.{IsQuiet, closure_quiet}
 use Rattle.ff_solver.specs.declared.copying.Names.{Names}
 use Rattle.ff_solver.specs.declared.state.Search.{Search}
-use Rattle.ff_solver.specs.Trails.{known, value_in, Ready}
 use Rattle.ff_solver.specs.Paths.{IsAtNode, AreMarks, IsPath, AreBranches, AreNext, AreLeft, IsReady}
 use Rattle.ff_solver.specs.Copies.{AreNamed, AreCopied, AreOwn, AreOwnNumbers}
 use Rattle.ff_solver.specs.Searches.{AreLeftIn, StandsAt}
@@ -42,8 +42,8 @@ pub record IsRoot (cons : List Constraint) (fs : List (Option Fact)) (part touch
   pub next : s.path.next ≡ Some 0
   pub branches : s.path.branches.items ≡ []
   pub branches_room : s.system.vars ≤ vec_capacity s.path.branches
-  pub trail : s.path.trail.vars.items ≡ []
-  pub trail_room : s.system.vars ≤ vec_capacity s.path.trail.vars
+  pub trail : IsTrail s.system.vars s.path.trail
+  pub none : s.path.trail.steps.items ≡ []
   pub values : s.path.trail.values.list.items ≡ names.values.items
 
 root_own : (cons : List Constraint) (fs : List (Option Fact)) (part touching : List ℕ) (names : Names)
@@ -63,14 +63,8 @@ root_own cons fs part touching names s root = record {
 root_path : (cons : List Constraint) (fs : List (Option Fact)) (part touching : List ℕ) (names : Names)
     (s : Search) → IsRoot cons fs part touching names s → IsPath s.system.vars s.system.constraints s.path
 root_path cons fs part touching names s root = record {
-  trail = record {
-    few = omega (arith, root.vars_are, root.named.few);
-    wide = ap length root.values ∙ root.named.as_many ∙ sym root.vars_are;
-    room = root.trail_room;
-    count = omega (arith, ap length root.trail);
-    trailed = λ i l. absurd (omega (arith, l, ap length root.trail));
-  };
-  marks = subst (λ ms. AreMarks s.system.constraints s.path.trail (length s.path.trail.vars.items) (reverse ms))
+  trail = root.trail;
+  marks = subst (λ ms. AreMarks s.system.constraints s.path.trail (length s.path.trail.steps.items) (reverse ms))
       (sym root.branches) tt;
   room = root.branches_room;
 }
@@ -104,7 +98,7 @@ started vars cons gs fs part touching names s fit board is root =
       pending = record { trees = []; branches = subst (λ ms. AreBranches s.system.constraints value s.places s.path.trail (reverse ms) []) (sym root.branches) tt; are = refl };
       are = sym (append-nil (visits tree.0));
     } in
-    let ready : Ready s.system.constraints s.path.trail 0 (length s.system.constraints) = λ c con l at. inr (λ v t f.
+    let ready : AreReady s.system.constraints s.path.trail 0 = λ c con at. inr (λ v t f.
     own_quiet vars cons s.system.constraints fit (value_at fs) value part names.list.items quiet is own (known s.path.trail) known_is c con at v t f) in
     record {
       search = record {

@@ -2,42 +2,42 @@
 use Rattle.std.proofs.Common.{◌≡◌, ℕ, ◌≤◌, inl, inr, List, ◌∷◌, ◌++◌, length, reverse, sym, ap, ◌∙◌, subst, arith, Option, None}
 use Rattle.std.specs.Vec.{vec_capacity}
 use Rattle.std.proofs.lemmas.List.{append_assoc}
-use Rattle.std.proofs.lemmas.Option.{slice_get_within}
 use Rattle.ff_tables.specs.declared.orders.Order.{Order}
 use Rattle.ff_tables.specs.declared.orders.Order.TheVariants.{Below, Above}
 use Rattle.ff_tables.specs.declared.terms.Constraint.{Constraint}
 use Rattle.ff_tables.specs.Systems.{AreFit}
 use Rattle.ff_tables.specs.Forces.{Knows}
+use Rattle.ff_propagate.specs.declared.trail.Step.{Step}
+use Rattle.ff_propagate.specs.declared.trail.Trail.{Trail}
+use Rattle.ff_propagate.specs.Trails.{known, IsTrail, Grows, IsSilent, Rests, AreReady, IsDead}
 use Rattle.ff_propagate.specs.Trees.{Tree, IsTreeAt, visits}
-use Rattle.ff_solver.specs.declared.trail.Trail.{Trail}
 use Rattle.ff_solver.specs.declared.path.Path.{Path}
-use Rattle.ff_solver.specs.Trails.{known, IsTrail, Grows, IsSilent, Rests, Ready, IsDead}
 use Rattle.ff_solver.specs.Paths.{AreSilent, IsAtNode, AreMarks, IsPath, AreBranches, ArePending, AreNext, AreLeft, IsPassed, IsSolved, AreDecided, IsFirstOpen, Nodes}
 use Rattle.ff_solver.proofs.Branching.{AreAlike, marks_alike, branches_alike, marks_up}
 use Rattle.ff_solver.proofs.Inverting.{dead_clash, clash_tree, full_tree, fork_tree}
 
 grows_alike : (cons : List Constraint) (old new : Trail) → Grows cons old new
-    → AreAlike old new (length old.vars.items)
-grows_alike cons old new x = record { cuts = λ m l. x.same m (omega (arith, l)); vars = λ m l. x.front m l }
+    → AreAlike old new (length old.steps.items)
+grows_alike cons old new x = record { cuts = λ m l. x.same m (omega (arith, l)); vars = λ m l. ap (λ (z : Step). z.var) (x.front m l) }
 
 pub closed_path : (vars : ℕ) (cons : List Constraint) (old new : Path) → IsPath vars cons old
     → IsTrail vars new.trail → Grows cons old.trail new.trail → new.branches ≡ old.branches
     → IsPath vars cons new
 closed_path vars cons old new is trail x same = record {
   trail = trail;
-  marks = subst (λ b. AreMarks cons new.trail (length new.trail.vars.items) (reverse b.items)) (sym same)
-      (marks_up cons new.trail (length old.trail.vars.items) (length new.trail.vars.items)
+  marks = subst (λ b. AreMarks cons new.trail (length new.trail.steps.items) (reverse b.items)) (sym same)
+      (marks_up cons new.trail (length old.trail.steps.items) (length new.trail.steps.items)
       (reverse old.branches.items) x.count
-      (marks_alike cons old.trail new.trail (length old.trail.vars.items) (reverse old.branches.items)
+      (marks_alike cons old.trail new.trail (length old.trail.steps.items) (reverse old.branches.items)
       (grows_alike cons old.trail new.trail x) is.marks));
   room = subst (λ b. vars ≤ vec_capacity b) (sym same) is.room;
 }
 
-pub all_silent : (cons : List Constraint) (t : Trail) → Ready cons t (length t.vars.items) (length cons)
+pub all_silent : (cons : List Constraint) (t : Trail) → AreReady cons t (length t.steps.items)
     → AreSilent cons (known t)
-all_silent cons t ready c con is = pick (ready c con (slice_get_within cons c con is) is)
+all_silent cons t ready c con is = pick (ready c con is)
   where
-    pick : Rests t (length t.vars.items) con → IsSilent (known t) con
+    pick : Rests t (length t.steps.items) con → IsSilent (known t) con
     pick (inl (i, j, a, b, l, e)) = absurd (omega (arith, a, b))
     pick (inr quiet) = quiet
 
@@ -57,7 +57,7 @@ closed_pending : (vars : ℕ) (cons : List Constraint) (value : ℕ → Option O
 closed_pending vars cons value part old new nodes is x same pending = record {
   trees = pending.trees;
   branches = subst (λ b. AreBranches cons value part new.trail (reverse b.items) pending.trees) (sym same)
-      (branches_alike cons value part old.trail new.trail (length old.trail.vars.items)
+      (branches_alike cons value part old.trail new.trail (length old.trail.steps.items)
       (reverse old.branches.items) pending.trees (grows_alike cons old.trail new.trail x) is.marks
       pending.branches);
   are = pending.are;
@@ -70,15 +70,15 @@ pub record IsClosing (vars : ℕ) (cons : List Constraint) (old new : Path) : Ty
 
 -- a constraint is dead
 pub passed_clash : (vars : ℕ) (cons : List Constraint) → AreFit vars cons → (old mid new : Path)
-    → IsClosing vars cons old mid → IsDead cons mid.trail
+    → IsClosing vars cons old mid → (number : ℕ) → IsDead cons mid.trail number
     → (value : ℕ → Option Order) (part : List ℕ) (nodes : Nodes)
     → ((later : Nodes) → ArePending cons value part mid later → AreLeft cons value part new new.next
     later)
     → AreNext cons value part old nodes → IsPassed cons value part new nodes
-passed_clash vars cons fit old mid new c (k, con, is, none) value part nodes back next =
+passed_clash vars cons fit old mid new c number dead value part nodes back next =
     let node = closed_node cons value next.tried old.trail mid.trail c.grows next.node in
     let e = clash_tree cons value part next.tried (known mid.trail) node next.tree next.below
-    (dead_clash cons value part next.tried (known mid.trail) node vars fit k con is none) in
+    (dead_clash cons value part next.tried (known mid.trail) node vars fit number dead.constraint dead.there dead.none) in
     record {
       later = next.later;
       left = back next.later

@@ -8,7 +8,7 @@ use Rattle.ff_tables.specs.Orders.{term_at}
 use Rattle.ff_propagate.specs.declared.facts.Fact.{Fact}
 use Rattle.ff_propagate.specs.Facts.{value_at}
 use Rattle.ff_solver.specs.declared.copying.Names.{Names}
-use Rattle.ff_solver.specs.Trails.{value_in}
+use Rattle.ff_propagate.specs.Trails.{value_in}
 
 -- The term u is the term t by own numbers, each of which names a variable of the board. One of the part has a number below the
 -- length of the part.

@@ -1,5 +1,5 @@
-pub mod Trails
 pub mod Paths
+pub mod Moves
 pub mod Copies
 pub mod Searches
 pub mod SolutionLaws

@@ -4,10 +4,10 @@ use Rattle.ff_tables.specs.declared.orders.Order.{Order}
 use Rattle.ff_tables.specs.declared.orders.Order.TheVariants.{Below, Above}
 use Rattle.ff_tables.specs.declared.terms.Constraint.{Constraint}
 use Rattle.ff_tables.specs.Forces.{Knows}
+use Rattle.ff_propagate.specs.declared.trail.Trail.{Trail}
+use Rattle.ff_propagate.specs.Trails.{known, step_at, cut, IsTrail, IsSilent, AreReady}
 use Rattle.ff_propagate.specs.Trees.{Tree, With, AtNode, IsTreeAt, visits}
-use Rattle.ff_solver.specs.declared.trail.Trail.{Trail}
 use Rattle.ff_solver.specs.declared.path.Path.{Path}
-use Rattle.ff_solver.specs.Trails.{known, cut, IsTrail, IsSilent, Ready}
 
 -- no constraint forces more
 abbrev pub AreSilent : List Constraint → (ℕ → Option Order) → Type 0
@@ -26,7 +26,7 @@ AreMarks cons t bound (m ∷ marks) = (m < bound) × AreSilent cons (cut t m) ×
 
 pub record IsPath (vars : ℕ) (cons : List Constraint) (p : Path) : Type 0 where
   pub trail : IsTrail vars p.trail
-  pub marks : AreMarks cons p.trail (length p.trail.vars.items) (reverse p.branches.items)
+  pub marks : AreMarks cons p.trail (length p.trail.steps.items) (reverse p.branches.items)
   pub room : vars ≤ vec_capacity p.branches
 
 -- the tree is below the other value of the variable that was decided at the mark
@@ -34,7 +34,7 @@ pub record IsBranch (cons : List Constraint) (value : ℕ → Option Order) (par
     (tree : Tree) : Type 0 where
   pub tried : List (ℕ × Order)
   pub node : IsAtNode cons value tried (cut t m)
-  pub below : IsTreeAt cons (Knows value) part ((slice_index t.vars.items m, Above) ∷ tried) tree
+  pub below : IsTreeAt cons (Knows value) part (((step_at t m).var, Above) ∷ tried) tree
 
 -- the trees of the branches that are left, the last first
 abbrev pub AreBranches : List Constraint → (ℕ → Option Order) → List ℕ → Trail → List ℕ → List Tree → Type 0
@@ -77,7 +77,7 @@ AreLeft cons value part p (Some head) nodes = AreNext cons value part p nodes
 -- each constraint waits for a variable decided as the head-th or later, or forces no more
 abbrev pub IsReady : List Constraint → Trail → Option ℕ → Type 0
 IsReady cons t None = Unit {0}
-IsReady cons t (Some head) = (head ≤ length t.vars.items) × Ready cons t head (length cons)
+IsReady cons t (Some head) = (head ≤ length t.steps.items) × AreReady cons t head
 
 -- all variables of the part have values
 abbrev pub AreDecided : List ℕ → Trail → Type 0

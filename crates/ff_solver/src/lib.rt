@@ -1,14 +1,12 @@
 //! The solutions of a part, by a tree of tried values.
 #![tactic(auto)]
 
-mod closing;
 mod copying;
 mod laws;
 mod path;
 mod search;
 mod starting;
 mod state;
-mod trail;
 mod visiting;
 
 pub use laws::decided_nodes_are_solutions;

@@ -4,14 +4,15 @@ ghost use Rattle.ff_tables.specs.declared.orders.Order.{Order as OrderSpec};
 ghost use Rattle.ff_tables.specs.declared.orders.Order.TheVariants.{Below, Above};
 ghost use Rattle.ff_tables.specs.Forces.{Knows};
 ghost use Rattle.ff_propagate.specs.Trees.{Tree, IsTreeAt, visits};
-ghost use Rattle.ff_solver.specs.Trails.{known, Ready};
+ghost use Rattle.ff_propagate.specs.Trails.{known};
+ghost use Rattle.ff_solver.specs.Moves.{IsBranched, GoesBack};
 ghost use Rattle.ff_solver.specs.Paths.{IsPath, IsReady, ArePending, AreNext, AreLeft, IsAtNode, IsPassed, IsSolved, AreDecided, AreSilent, Nodes};
 
-use crate::trail::Trail;
+use ff_propagate::Trail;
 use ff_tables::{Order, System};
 
-/// The values at a node, the lengths that the trail had at the branches that are left, and the place of the trail from which on
-/// the next node is to be closed.
+/// The values at a node, how many steps the trail had at the branches that are left, and the number of the step from which on the
+/// next node is to be closed.
 #[derive(Drop)]
 pub(crate) struct Path {
     pub(crate) trail: Trail,
@@ -27,13 +28,14 @@ impl Path {
         ensures ready { IsReady system.now.constraints self.new.trail self.new.next }
         ensures left { (value : ℕ → Option OrderSpec) (part : List ℕ) (nodes : Nodes) → ArePending system.now.constraints value part self.old nodes
             → AreLeft system.now.constraints value part self.new self.new.next nodes }
+        ensures back { GoesBack system.now.vars self.old self.new }
     {
         match self.branches.pop() {
             None => self.next = None,
             Some(mark) => {
-                let var = self.trail.vars[mark as usize];
+                let var = self.trail.step(mark as usize).var;
                 self.trail.undo(system.vars, mark as usize);
-                self.trail.set(var, Order::Above);
+                self.trail.assume(system.vars, var, Order::Above);
                 self.next = Some(mark);
             }
         }
@@ -53,10 +55,12 @@ impl Path {
             → IsTreeAt system.now.constraints (Knows value) part ((var, Above) ∷ tried) above
             → ArePending system.now.constraints value part self.old nodes
             → AreLeft system.now.constraints value part self.new self.new.next (visits below ++ (visits above ++ nodes)) }
+        ensures branched { IsBranched system.now.vars self.old var self.new }
     {
-        let mark = self.trail.vars.len() as u32;
+        let steps = self.trail.len();
+        self.trail.assume(system.vars, var, Order::Below);
+        let mark = steps as u32;
         self.branches.push_reserved(mark);
-        self.trail.set(var, Order::Below);
         self.next = Some(mark);
     }
 }

@@ -1,12 +1,12 @@
 //! A search goes on.
 ghost use Rattle.std.specs.Prelude.{◌≡◌, ℕ, ◌+◌, ◌*◌, ◌<◌, ◌≤◌, ◌^◌, ◌++◌, [], IsTrue, IfOk, OnErr, List, false, length, None, Some, Option, slice_index, slice_index_or, vec_len, vec_capacity};
 ghost use Rattle.ff_tables.specs.declared.orders.Order.{Order as OrderSpec};
-ghost use Rattle.ff_solver.specs.Trails.{known, IsTrail};
+ghost use Rattle.ff_propagate.specs.Trails.{known, IsTrail};
 ghost use Rattle.ff_solver.specs.Paths.{AreDecided, AreValues, AreWithin, AreLeft, AreNext, ArePending, IsPassed, IsSolved, Nodes};
 ghost use Rattle.ff_solver.specs.Searches.{IsSearch, IsSameSearch, IsAtSolution, AreLeftIn, IsRun, GoesOn, AnswersIn};
 
 use crate::state::{Advance, Search};
-use crate::trail::Trail;
+use ff_propagate::Trail;
 use ff_tables::{Items, Known, NoMemory, Order};
 use ff_types::Case;
 use std::alloc::Global;
@@ -22,7 +22,7 @@ fn read_values(part: &[u32], trail: &Trail, vars: u32, values: &mut Vec<Order>)
 {
     let _ = vars;
     for k in 0..part.len() {
-        values.push_reserved(trail.values.value(part[k]).unwrap_or(Order::Below));
+        values.push_reserved(trail.value(part[k]).unwrap_or(Order::Below));
     }
 }
 

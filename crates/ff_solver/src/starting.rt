@@ -8,8 +8,7 @@ ghost use Rattle.ff_solver.specs.Searches.{StandsAt, Starts};
 use crate::copying::{names_of, numbers_to};
 use crate::path::Path;
 use crate::state::Search;
-use crate::trail::{Trail, Values};
-use ff_propagate::{Facts, Part, Uses};
+use ff_propagate::{Facts, Part, Trail, Uses};
 use ff_tables::{Items, NoMemory, System};
 use ff_types::Case;
 use std::alloc::Global;
@@ -32,7 +31,7 @@ pub fn start(alloc: Global, case: &Case, facts: &Facts, part: &Part) -> Result<S
     let constraints = names.copy_all(alloc, case.system.constraints.as_slice(), facts, part)?;
     let vars = names.list.len() as u32;
     let uses = Uses::new(alloc, vars, constraints.as_slice())?;
-    let trail = Vec::with_capacity(alloc, vars as usize)?;
+    let trail = Trail::of(alloc, names.values)?;
     let branches = Vec::with_capacity(alloc, vars as usize)?;
     Ok(Search {
         part: part.copy(alloc)?,
@@ -44,10 +43,7 @@ pub fn start(alloc: Global, case: &Case, facts: &Facts, part: &Part) -> Result<S
         places: Items::of(places),
         uses,
         path: Path {
-            trail: Trail {
-                values: Values { list: names.values },
-                vars: trail,
-            },
+            trail,
             branches,
             next: Some(0),
         },

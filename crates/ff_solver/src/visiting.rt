@@ -2,12 +2,11 @@
 ghost use Rattle.std.specs.Prelude.{◌≡◌, ℕ, ◌<◌, ◌≤◌, ◌^◌, IsTrue, false, length, None, Some, Option, slice_index};
 ghost use Rattle.ff_tables.specs.declared.orders.Order.{Order as OrderSpec};
 ghost use Rattle.ff_propagate.specs.Uses.{AreUses};
-ghost use Rattle.ff_solver.specs.Trails.{known, Ready, IsTrail};
+ghost use Rattle.ff_propagate.specs.Trails.{known};
 ghost use Rattle.ff_solver.specs.Paths.{IsPath, IsReady, AreNext, IsPassed, IsSolved, AreDecided, AreWithin, FirstOpen, Nodes};
 
 use crate::path::Path;
-use crate::trail::Trail;
-use ff_propagate::Uses;
+use ff_propagate::{Trail, Uses};
 use ff_tables::{Known, System};
 
 // The first variable of the part that has no value.
@@ -18,7 +17,7 @@ fn first_open(part: &[u32], trail: &Trail, vars: u32) -> Option<u32>
 {
     let _ = vars;
     for k in 0..part.len() {
-        if trail.values.value(part[k]).is_none() {
+        if trail.value(part[k]).is_none() {
             return Some(part[k]);
         }
     }
@@ -42,16 +41,18 @@ impl Path {
         ensures solved { IsTrue result → (value : ℕ → Option OrderSpec) (nodes : Nodes) → AreNext system.now.constraints value part.now self.old nodes
             → IsSolved system.now.constraints value part.now self.new nodes }
     {
-        if !self.trail.close(system, uses, head as usize) {
-            self.backtrack(system);
-            return false;
-        }
-        match first_open(part, &self.trail, system.vars) {
-            None => true,
-            Some(var) => {
-                self.branch(system, var);
+        match self.trail.close(system, uses, head as usize) {
+            Some(_dead) => {
+                self.backtrack(system);
                 false
             }
+            None => match first_open(part, &self.trail, system.vars) {
+                None => true,
+                Some(var) => {
+                    self.branch(system, var);
+                    false
+                }
+            },
         }
     }
 }

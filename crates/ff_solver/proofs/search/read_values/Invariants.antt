@@ -1,7 +1,7 @@
 use Rattle.std.proofs.Common.{◌≡◌, ℕ, ◌<◌, ◌≤◌, Some, slice_index, slice_index_or, length}
 use Rattle.std.specs.Vec.{vec_capacity}
 use Rattle.ff_tables.specs.declared.orders.Order.TheVariants.{Below}
-use Rattle.ff_solver.specs.Trails.{known}
+use Rattle.ff_propagate.specs.Trails.{known}
 use Rattle.ff_solver.proofs.search.read_values.Given as goal
 
 abbrev pub invariant-loop-k : goal.invariant-loop-k

@@ -1,8 +1,7 @@
-use Rattle.std.proofs.Common.{◌≡◌, ◌+◌, ◌≤◌, ℕ, length, List, Some, refl, sym, subst, slice_get, slice_index}
+use Rattle.std.proofs.Common.{◌≡◌, ◌+◌, ◌≤◌, ℕ, length, List, Some, sym, subst, slice_get, slice_index}
 use Rattle.ff_tables.specs.declared.terms.Constraint.{Constraint}
 use Rattle.ff_solver.specs.Copies.{AreNamed, IsCopied, AreCopied}
-use Rattle.ff_solver.proofs.Copies.{number_below, copies_more}
-use Rattle.ff_solver.proofs.Visits.{con_read}
+use Rattle.ff_solver.proofs.Copies.{con_read, number_below, copies_more}
 use Rattle.ff_solver.proofs.copying.Names.copy_all.Goals as goal
 
 pub bounds-constraints-numbers : goal.bounds-constraints-numbers
@@ -11,7 +10,7 @@ bounds-constraints-numbers c = number_below c.args.constraints.now c.args.part.n
 
 pub copied-requires-clause-within : goal.copied-requires-clause-within
 copied-requires-clause-within c = (c.requires.fit (slice_index c.as_slice-numbers.result.now c.loop-k.k) c.index-constraints-numbers.result
-    (con_read c.args.constraints.now _ _ c.index-constraints-numbers.result refl
+    (con_read c.args.constraints.now _ c.index-constraints-numbers.result
     (number_below c.args.constraints.now c.args.part.now.vars c.args.part.now.touching c.as_slice-numbers.result.now
     c.requires.touching c.as_slice-numbers.ensures c.loop-k.k c.loop-k-test.true) c.index-constraints-numbers.is)).within
 
@@ -24,7 +23,7 @@ loop-k-preserved c = record {
       c.loop-k.self.list.items c.copied.new.self.list.items c.index-constraints-numbers.result c.in_ok-copied.field-0 c.loop-k.k
       c.loop-k.invariant.copied c.in_ok-copied.ensures.longer
       (subst (λ (ns : List ℕ). slice_get c.args.constraints.now (slice_index ns c.loop-k.k) ≡ Some c.index-constraints-numbers.result) c.as_slice-numbers.ensures
-      (con_read c.args.constraints.now _ _ c.index-constraints-numbers.result refl
+      (con_read c.args.constraints.now _ c.index-constraints-numbers.result
       (number_below c.args.constraints.now c.args.part.now.vars c.args.part.now.touching c.as_slice-numbers.result.now
       c.requires.touching c.as_slice-numbers.ensures c.loop-k.k c.loop-k-test.true) c.index-constraints-numbers.is))
       (subst (λ (part : List ℕ). IsCopied part c.copied.new.self.list.items c.index-constraints-numbers.result c.in_ok-copied.field-0) c.as_slice-vars.ensures c.in_ok-copied.ensures.copied));

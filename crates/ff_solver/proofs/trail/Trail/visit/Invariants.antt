@@ -1,8 +1,0 @@
-use Rattle.std.proofs.Common.{◌+◌}
-use Rattle.ff_solver.specs.Trails.{IsTrail, Grows}
-use Rattle.ff_solver.proofs.Visits.{Almost}
-use Rattle.ff_solver.proofs.trail.Trail.visit.Given as goal
-
-abbrev pub invariant-loop-k : goal.invariant-loop-k
-invariant-loop-k l = IsTrail l.system.vars l.self × Grows l.system.constraints l.fn.self l.self
-    × Almost l.system.constraints l.self (l.head + 1) l.list l.k
