@@ -3,6 +3,7 @@ use Rattle.std.proofs.Common.{◌≡◌, ℕ, zero, suc, ◌+◌, ◌<◌, ◌�
 use Rattle.std.specs.Vec.{vec_capacity}
 use Rattle.std.proofs.lemmas.Bool.{cases_eq, eq-eqb}
 use Rattle.std.proofs.lemmas.List.{length-append, length-take-le, get_or-take, get_or_push, get_or_append_left, reverse-append, drop_all, drop_more, length-reverse, get_or-set_same, get_or-set_other}
+use Rattle.ff_basics.proofs.Options.{some_none, some_same}
 use Rattle.ff_tables.specs.declared.orders.Order.{Order}
 use Rattle.ff_tables.specs.declared.orders.Order.TheVariants.{Below, Above}
 use Rattle.ff_tables.specs.declared.terms.Term.{Term}
@@ -113,12 +114,6 @@ set_alike vars old v s new set = record {
 -- what was known when the trail had its present length
 pub cut_now : (t : Trail) (m : ℕ) → length t.steps.items ≤ m → Alike (known t) (cut t m)
 cut_now t m l w = ap (λ ss. without (known t) ss w) (drop_all m t.steps.items l)
-
-some_none : {A : Type 0} {o : Option Order} {s : Order} → o ≡ Some s → o ≡ None → A
-some_none p q = cc
-
-some_same : {s t : Order} → Some s ≡ Some t → s ≡ t
-some_same e = cc
 
 at_node_more : (cons : List Constraint) (value : ℕ → Option Order) (tried : List (ℕ × Order)) (v : ℕ)
     (s : Order) (w : ℕ) (t : Order) → AtNode cons (Knows value) tried w t

@@ -19,13 +19,7 @@ use Rattle.ff_solver.proofs.Nodes.{test, test_some, some_test}
 use Rattle.ff_solver.proofs.Listing.{tried_or_now, tried_now, tried_before}
 use Rattle.ff_solver.proofs.Touching.{stands_or_not, touches_or_not}
 use Rattle.std.specs.List.{Contains}
-
-some_or_none : (o : Option Order) → ((s : Order) × (o ≡ Some s)) ⊎ (o ≡ None)
-some_or_none None = inr refl
-some_or_none (Some s) = inl (s, refl)
-
-some_none : {A : Type 0} {o : Option Order} {s : Order} → o ≡ Some s → o ≡ None → A
-some_none p q = cc
+use Rattle.ff_basics.proofs.Options.{some_none, some_or_none}
 
 differ : {A : Type 0} {o : Option Order} → o ≡ Some Below → o ≡ Some Above → A
 differ p q = cc

@@ -8,6 +8,7 @@ use Rattle.std.proofs.lemmas.Bool.{cases_eq, cases_lt}
 use Rattle.std.proofs.lemmas.List.{length-append}
 use Rattle.std.proofs.lemmas.List.Sorted.{searched}
 use Rattle.std.proofs.lemmas.Option.{slice_get_within, slice_get-get_or}
+use Rattle.ff_basics.proofs.Options.{same_value}
 use Rattle.ff_tables.specs.declared.orders.Order.{Order}
 use Rattle.ff_tables.specs.declared.terms.Term.{Term}
 use Rattle.ff_tables.specs.declared.terms.Constraint.{Constraint}
@@ -17,9 +18,6 @@ use Rattle.ff_tables.specs.Systems.{AreFit}
 use Rattle.ff_propagate.specs.Parts.{IsPart, AreTouching}
 use Rattle.ff_propagate.proofs.Quiet.{contains_stands}
 use Rattle.ff_solver.specs.Copies.{IsCopiedTerm, IsCopied, HasCopy, IsRising, IsPlace, IsLonger, AreCopied}
-
-same_con : {o : Option Constraint} {a b : Constraint} → o ≡ Some a → o ≡ Some b → a ≡ b
-same_con p q = cc
 
 pub con_read : (cons : List Constraint) (k : ℕ) (con : Constraint) → k < length cons → con ≡ get_or cons k con
     → slice_get cons k ≡ Some con
@@ -109,7 +107,7 @@ copies_more cons own numbers part old new from con n before more at is = record 
     | inr past ↦ (
         let within : k < length own + 1 = subst (λ m. k < m) (length-append own (con ∷ [])) (slice_get_within (own ++ con ∷ []) k copy there) in
         let e : k ≡ length own = omega (arith, within, past) in
-        let same : con ≡ copy = same_con (con_last own con) (ap (slice_get (own ++ con ∷ [])) (sym e) ∙ there) in
+        let same : con ≡ copy = same_value (con_last own con) (ap (slice_get (own ++ con ∷ [])) (sym e) ∙ there) in
         record {
           from = from;
           there = ap (λ m. slice_get cons (slice_index numbers m)) (e ∙ before.as_many) ∙ at;
@@ -131,7 +129,7 @@ copy_there cons own part numbers names touching copied c from at i li among =
       con = get_or own n.0 from;
       there = there;
       copied = subst (λ d. IsCopied part names d (get_or own n.0 from))
-          (same_con copy.there (ap (slice_get cons) n.2 ∙ at)) copy.copied;
+          (same_value copy.there (ap (slice_get cons) n.2 ∙ at)) copy.copied;
     }
 
 -- copies of what fits fit

@@ -4,6 +4,7 @@ use Rattle.std.specs.List.{list_all}
 use Rattle.std.proofs.lemmas.Bool.{cases_eq, eq-eqb, ne_eqb}
 use Rattle.std.proofs.lemmas.List.{length-map, get_or-map}
 use Rattle.std.proofs.lemmas.Option.{slice_get_within}
+use Rattle.ff_basics.proofs.Options.{same_value, some_none, some_or_none}
 use Rattle.ff_tables.specs.declared.orders.Order.{Order}
 use Rattle.ff_tables.specs.declared.orders.Order.TheVariants.{Below, Above}
 use Rattle.ff_tables.specs.declared.terms.Constraint.{Constraint}
@@ -19,13 +20,6 @@ use Rattle.ff_propagate.specs.Trails.{IsSilent}
 use Rattle.ff_solver.specs.Paths.{AreSilent, IsAtNode}
 use Rattle.ff_solver.proofs.Inverting.{dead_clash, settled, calm}
 use Rattle.ff_solver.proofs.Branching.{node_set}
-
-some_or_none : (o : Option Order) → ((s : Order) × (o ≡ Some s)) ⊎ (o ≡ None)
-some_or_none None = inr refl
-some_or_none (Some s) = inl (s, refl)
-
-some_none : {A : Type 0} {o : Option Order} {s : Order} → o ≡ Some s → o ≡ None → A
-some_none p q = cc
 
 turn_one : (b : Bool) (s t : Order) → turn b s ≡ turn b t → s ≡ t
 turn_one b s t e = sym (turn_turn b s) ∙ ap (turn b) e ∙ turn_turn b t
@@ -161,9 +155,6 @@ silent_or_more vars con fit f = elim (row_or_none f con) [
   ]
 ]
 
-same_con : {o : Option Constraint} {a b : Constraint} → o ≡ Some a → o ≡ Some b → a ≡ b
-same_con p q = cc
-
 con_or_none : (o : Option Constraint) → ((con : Constraint) × (o ≡ Some con)) ⊎ (o ≡ None)
 con_or_none None = inr refl
 con_or_none (Some con) = inl (con, refl)
@@ -180,7 +171,7 @@ all_or_more vars cons fit f (suc n) = elim (all_or_more vars cons fit f n) [
     | inr none ↦ inl (λ c con l is. elim (cases_eq c n) [ inl e ↦ con_clash is (ap (slice_get cons) e ∙ none) | inr ne ↦ all c con (omega (arith, l, ne)) is ])
     | inl here ↦ elim (silent_or_more vars here.0 (fit n here.0 here.1) f) [
       | inl silent ↦ inl (λ c con l is. elim (cases_eq c n) [
-        | inl e ↦ subst (λ d. IsSilent f d) (same_con here.1 (ap (slice_get cons) (sym e) ∙ is)) silent
+        | inl e ↦ subst (λ d. IsSilent f d) (same_value here.1 (ap (slice_get cons) (sym e) ∙ is)) silent
         | inr ne ↦ all c con (omega (arith, l, ne)) is
       ])
       | inr step ↦ elim step [

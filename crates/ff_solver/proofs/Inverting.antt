@@ -1,6 +1,7 @@
 -- What the tree below a node is, by the values at the node.
 use Rattle.std.proofs.Common.{◌≡◌, ℕ, ◌<◌, ◌⊎◌, inl, inr, true, List, ◌∷◌, length, get_or, slice_index, slice_get, refl, sym, ap, ◌∙◌, subst, Option, Some, None}
 use Rattle.std.proofs.lemmas.Bool.{cases_order}
+use Rattle.ff_basics.proofs.Options.{some_none, some_or_none}
 use Rattle.ff_tables.specs.declared.orders.Order.{Order}
 use Rattle.ff_tables.specs.declared.orders.Order.TheVariants.{Below, Above}
 use Rattle.ff_tables.specs.declared.terms.Constraint.{Constraint}
@@ -12,13 +13,6 @@ use Rattle.ff_propagate.specs.Trees.{Tree, Clash, Full, Fork, With, AtNode, IsTr
 use Rattle.ff_propagate.proofs.Quiet.{dead_forces, closure_forced}
 use Rattle.ff_solver.specs.Paths.{AreSilent, IsAtNode}
 use Rattle.ff_solver.proofs.Nodes.{test, test_some, some_test}
-
-some_or_none : (o : Option Order) → ((s : Order) × (o ≡ Some s)) ⊎ (o ≡ None)
-some_or_none None = inr refl
-some_or_none (Some s) = inl (s, refl)
-
-some_none : {A : Type 0} {o : Option Order} {s : Order} → o ≡ Some s → o ≡ None → A
-some_none p q = cc
 
 differ : {A : Type 0} {o : Option Order} → o ≡ Some Below → o ≡ Some Above → A
 differ p q = cc

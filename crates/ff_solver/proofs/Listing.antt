@@ -2,6 +2,8 @@
 use Rattle.std.proofs.Common.{◌≡◌, ℕ, zero, suc, ◌<◌, ◌++◌, ◌⊎◌, inl, inr, Bool, true, false, ◌&&◌, List, [], ◌∷◌, length, filter, slice_index, refl, sym, ap, ◌∙◌, subst, arith, Option, Some, Contains}
 use Rattle.std.proofs.lemmas.List.{ext_get_or}
 use Rattle.std.proofs.lemmas.List.Elements.{filter_map-append}
+use Rattle.ff_basics.proofs.Tests.{first_true, second_true, true_and}
+use Rattle.ff_basics.proofs.Options.{some_same}
 use Rattle.ff_tables.specs.declared.orders.Order.{Order}
 use Rattle.ff_tables.specs.declared.orders.Order.TheVariants.{Below, Above}
 use Rattle.ff_tables.specs.declared.terms.Constraint.{Constraint}
@@ -19,18 +21,6 @@ use Rattle.ff_tables.proofs.Agreeing.{forces_more}
 use Rattle.ff_solver.proofs.Lists.{Test, has, and, none_pass, one_passes, splits}
 use Rattle.ff_solver.proofs.Nodes.{HasTried, has_node}
 
-front : (b c : Bool) → (b && c) ≡ true → b ≡ true
-front true c e = refl
-front false c e = e
-
-back : (b c : Bool) → (b && c) ≡ true → c ≡ true
-back true c e = e
-back false c e = cc
-
-both : (b c : Bool) → b ≡ true → c ≡ true → (b && c) ≡ true
-both true c h e = e
-both false c h e = h
-
 is_same : (a b : Order) → is_order a b ≡ true → a ≡ b
 is_same Below Below h = refl
 is_same Below Above h = cc
@@ -42,9 +32,6 @@ same_is Below Below h = refl
 same_is Below Above h = cc
 same_is Above Below h = cc
 same_is Above Above h = refl
-
-some_same : {s t : Order} → Some s ≡ Some t → s ≡ t
-some_same e = cc
 
 differ : Below ≡ Above → ⊥
 differ e = cc
@@ -158,15 +145,15 @@ module _ (vars : ℕ) (cons : List Constraint) (value : ℕ → Option Order) (p
       | inr old ↦ sel.within v t old
     ];
     only = λ xs long e.
-        let r = sel.only xs long (front (p xs) (has k s xs) e) in (
+        let r = sel.only xs long (first_true (p xs) (has k s xs) e) in (
           r.0,
           λ v t among. elim (tried_or_now (slice_index part k) s tried v t among) [
             | inl now ↦ ap (joint value part xs) now.0 ∙ joint_at value part xs k distinct l long
-                ∙ ap (λ b. Some b) (is_same (row_at xs k) s (back (p xs) (has k s xs) e) ∙ sym now.1)
+                ∙ ap (λ b. Some b) (is_same (row_at xs k) s (second_true (p xs) (has k s xs) e) ∙ sym now.1)
             | inr old ↦ r.1 v t old
           ],
         );
-    all = λ xs long e tries. both (p xs) (has k s xs)
+    all = λ xs long e tries. true_and (p xs) (has k s xs)
         (sel.all xs long e (λ v t among. tries v t (tried_before (slice_index part k) s tried v t among)))
         (same_is (row_at xs k) s
         (some_same

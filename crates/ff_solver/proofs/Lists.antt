@@ -2,6 +2,7 @@
 use Rattle.std.proofs.Common.{◌≡◌, ℕ, zero, suc, ◌<◌, ◌++◌, Bool, true, false, ◌&&◌, cond, List, [], ◌∷◌, map, filter, length, refl, sym, ap, ◌∙◌, arith}
 use Rattle.std.proofs.lemmas.List.{append-nil, map-append}
 use Rattle.std.proofs.lemmas.List.Elements.{filter-append, filter_agree}
+use Rattle.ff_basics.proofs.Tests.{first_true}
 use Rattle.ff_tables.specs.declared.orders.Order.{Order}
 use Rattle.ff_tables.specs.declared.orders.Order.TheVariants.{Below, Above}
 use Rattle.ff_tables.specs.Orders.{is_order, row_at}
@@ -98,10 +99,6 @@ and_false : (b : Bool) → (b && false) ≡ true → ⊥
 and_false true e = cc
 and_false false e = cc
 
-left : (b c : Bool) → (b && c) ≡ true → b ≡ true
-left true c e = refl
-left false c e = e
-
 -- all lists that pass have one value at each place before k
 abbrev pub FrontIsOne : ℕ → Test → ℕ → Type 0
 FrontIsOne n p k = (j : ℕ) → j < k
@@ -174,9 +171,9 @@ splits (suc n) p (suc k) l one = sort (one 0 (omega arith)).0 (one 0 (omega arit
         ∙ map-append (λ xs. s ∷ xs) (filter (and (onto p s) (has k Below)) (all_lists n))
         (filter (and (onto p s) (has k Above)) (all_lists n))
         ∙ sym (ap (λ ls. ls ++ filter (and p (has (suc k) Above)) (all_lists (suc n)))
-        (by (and p (has (suc k) Below)) (λ xs m e. left (p xs) _ e))
+        (by (and p (has (suc k) Below)) (λ xs m e. first_true (p xs) _ e))
         ∙ ap (λ ls. map (λ xs. s ∷ xs) (filter (and (onto p s) (has k Below)) (all_lists n)) ++ ls)
-        (by (and p (has (suc k) Above)) (λ xs m e. left (p xs) _ e)))
+        (by (and p (has (suc k) Above)) (λ xs m e. first_true (p xs) _ e)))
 
     other : Below ≡ Above → ⊥
     other e = cc

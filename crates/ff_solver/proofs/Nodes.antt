@@ -1,5 +1,6 @@
 -- What the closure at a node tells of the lists of values that agree with what was tried.
 use Rattle.std.proofs.Common.{◌≡◌, ℕ, ◌<◌, ◌⊎◌, inl, inr, Bool, true, false, List, length, slice_index, slice_get, refl, sym, ap, ◌∙◌, subst, Option, Some, None, Contains}
+use Rattle.ff_basics.proofs.Options.{some_or_none}
 use Rattle.ff_tables.specs.declared.orders.Order.{Order}
 use Rattle.ff_tables.specs.declared.orders.Order.TheVariants.{Below, Above}
 use Rattle.ff_tables.specs.declared.terms.Constraint.{Constraint}
@@ -38,10 +39,6 @@ some_test o s e = ap (λ p. test p s) e ∙ same s
     same : (t : Order) → test (Some t) t ≡ true
     same Below = refl
     same Above = refl
-
-some_or_none : (o : Option Order) → ((s : Order) × (o ≡ Some s)) ⊎ (o ≡ None)
-some_or_none None = inr refl
-some_or_none (Some s) = inl (s, refl)
 
 clash : {A : Type 0} {o : Option Order} {s : Order} → o ≡ None → o ≡ Some s → A
 clash p q = cc

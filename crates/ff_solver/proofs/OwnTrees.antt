@@ -1,5 +1,6 @@
 -- The decision tree of a part is the one of its own system.
 use Rattle.std.proofs.Common.{◌≡◌, ℕ, ◌<◌, ◌⊎◌, inl, inr, List, [], ◌∷◌, length, slice_index, slice_index_or, refl, sym, ◌∙◌, subst, arith, Option, Some, None}
+use Rattle.ff_basics.proofs.Options.{some_or_none}
 use Rattle.ff_tables.specs.declared.orders.Order.{Order}
 use Rattle.ff_tables.specs.declared.orders.Order.TheVariants.{Below, Above}
 use Rattle.ff_tables.specs.declared.terms.Constraint.{Constraint}
@@ -14,10 +15,6 @@ use Rattle.ff_solver.proofs.Branching.{node_set}
 use Rattle.ff_solver.proofs.Inverting.{calm}
 use Rattle.ff_solver.proofs.Existing.{IsClosedNode, close_by, count_open, put, put_here, put_other}
 use Rattle.ff_solver.proofs.Copied.{AreSame, same_more, no_clash, node_over, no_own_clash, node_from}
-
-some_or_none : (o : Option Order) → ((s : Order) × (o ≡ Some s)) ⊎ (o ≡ None)
-some_or_none None = inr refl
-some_or_none (Some s) = inl (s, refl)
 
 module _ (vars own_vars : ℕ) (cons own : List Constraint) (fit : AreFit vars cons) (own_fit : AreFit own_vars own)
     (value own_value : ℕ → Option Order) (part names numbers : List ℕ)

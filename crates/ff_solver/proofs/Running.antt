@@ -2,6 +2,7 @@
 use Rattle.std.proofs.Common.{◌≡◌, ℕ, ◌+◌, ◌*◌, ◌-◌, ◌^◌, ◌<◌, List, [], ◌∷◌, ◌++◌, length, refl, sym, ap, ◌∙◌, subst, arith, add-one, Option, Some, None}
 use Rattle.std.proofs.Math.Nat.{mul-suc, mul-add}
 use Rattle.std.proofs.lemmas.List.{append_assoc, replicate_more, ext_get_or}
+use Rattle.ff_basics.proofs.Options.{some_same}
 use Rattle.ff_tables.specs.declared.orders.Order.{Order}
 use Rattle.ff_tables.specs.declared.orders.Order.TheVariants.{Below}
 use Rattle.ff_tables.specs.declared.terms.Constraint.{Constraint}
@@ -58,9 +59,6 @@ run_spent turns old now left head r at short value nodes are =
         not_covered = omega (arith, r.paid, short, times_more (length old.part.vars) r.steps);
       };
     }
-
-some_same : {s t : Order} → Some s ≡ Some t → s ≡ t
-some_same e = cc
 
 same_values : (part : List ℕ) (t : Trail) (a b : List Order) → AreValues part t a → AreValues part t b → a ≡ b
 same_values part t a b x y = ext_get_or Below a b (x.as_many ∙ sym y.as_many)
