@@ -1,9 +1,8 @@
 -- Constraints are put in the lists of their variables.
-use Rattle.std.proofs.Common.{◌≡◌, ℕ, zero, suc, ◌+◌, ◌<◌, ◌≤◌, inl, inr, refl, sym, ap, ◌∙◌, subst, arith, List, [], ◌∷◌, ◌++◌, length, replicate, get_or, set, slice_index, slice_get, Some, Vec}
-use Rattle.std.specs.declared.alloc.Global.{Global}
+use Rattle.std.proofs.Common.{◌≡◌, ℕ, ◌+◌, ◌<◌, ◌≤◌, inl, inr, refl, sym, ap, ◌∙◌, subst, arith, List, [], ◌∷◌, ◌++◌, length, set, slice_index, slice_get, Some}
 use Rattle.std.proofs.lemmas.Bool.{cases_eq}
-use Rattle.std.proofs.lemmas.List.{map_push, get_or-set_same, get_or-set_other, get_or-map, replicate_more, get_or_append_left, get_or_push, length-append}
-use Rattle.ff_basics.specs.NumberedLists.{list_at, lists_in}
+use Rattle.std.proofs.lemmas.List.{get_or-set_same, get_or-set_other, get_or_append_left, get_or_push, length-append}
+use Rattle.ff_basics.specs.NumberedLists.{list_at}
 use Rattle.ff_tables.specs.declared.terms.Constraint.{Constraint}
 use Rattle.ff_tables.specs.declared.terms.Term.{Term}
 use Rattle.ff_tables.specs.Orders.{term_at}
