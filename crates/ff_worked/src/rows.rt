@@ -38,20 +38,20 @@ fn number(text: Option<&&str>) -> usize {
     }
 }
 
-// The kind of this name, and how many fields its numbers take.
+// The kind of this name, and at which field the words begin, behind the kind's numbers.
 fn kind_of(fields: &[&str]) -> Option<(Kind, usize)> {
     let name = *fields.first()?;
     match name {
-        "run" => Some((Kind::Run, 0)),
-        "padded" => Some((Kind::Padded(number(fields.get(3))), 1)),
-        "fronts" => Some((Kind::Fronts, 0)),
-        "read-fault" => Some((Kind::ReadFault, 0)),
+        "run" => Some((Kind::Run, 3)),
+        "padded" => Some((Kind::Padded(number(fields.get(3))), 4)),
+        "fronts" => Some((Kind::Fronts, 3)),
+        "read-fault" => Some((Kind::ReadFault, 3)),
         "write-fault" => {
             let failing = number(fields.get(3)) as u64;
-            Some((Kind::WriteFault(failing, number(fields.get(4))), 2))
+            Some((Kind::WriteFault(failing, number(fields.get(4))), 5))
         }
-        "stages" => Some((Kind::Stages, 0)),
-        "refused" => Some((Kind::Refused, 0)),
+        "stages" => Some((Kind::Stages, 3)),
+        "refused" => Some((Kind::Refused, 3)),
         _ => None,
     }
 }
@@ -68,13 +68,13 @@ fn words_of(alloc: Global, words: &[&str]) -> Result<Vec<String>, AllocError> {
 /// of the command line, each parted from the next by a tab. None where it is of no such form, as a comment.
 pub fn row_of(alloc: Global, line: &str) -> Result<Option<Row>, AllocError> {
     let fields: Vec<&str> = line.split('\t').collect(alloc)?;
-    let Some((kind, numbers)) = kind_of(fields.as_slice()) else {
+    let Some((kind, first)) = kind_of(fields.as_slice()) else {
         return Ok(None);
     };
     let (Some(wanted), Some(input)) = (fields.get(1), fields.get(2)) else {
         return Ok(None);
     };
-    let words = fields.as_slice().get(3 + numbers..).unwrap_or(&[]);
+    let words = fields.as_slice().get(first..).unwrap_or(&[]);
     Ok(Some(Row {
         kind,
         wanted: String::from_str(alloc, *wanted)?,
