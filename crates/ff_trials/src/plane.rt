@@ -23,32 +23,28 @@ fn lines_and_places(rt: HostRuntime) -> Result<(), Fail> {
     Ok(())
 }
 
-// Points near the limit of coordinates, and a line through two of them.
-const FAR: i64 = (1 << 23) - 1;
-
-fn through_far(p: (i64, i64), q: (i64, i64)) -> Line {
-    let near = |n: i64| n.clamp(-FAR, FAR);
-    let p = Pt {
-        x: near(p.0),
-        y: near(p.1),
-    };
-    let q = Pt {
-        x: near(q.0),
-        y: near(q.1),
-    };
-    if p == q {
-        Line { a: 0, b: 1, c: 0 }
-    } else {
-        through(p, q)
-    }
-}
-
 // The place was computed by Cramer's rule with unbounded numbers.
 #[test]
 fn places_at_the_limit(rt: HostRuntime) -> Result<(), Fail> {
-    let k = through_far((FAR - 1, 1 - FAR), (-FAR, -FAR));
-    let l = through_far((1 - FAR, FAR - 1), (FAR - 1, FAR - 2));
-    let n = through_far((FAR, FAR - 1), (-FAR, -FAR));
+    let p = Pt {
+        x: 8388606,
+        y: -8388606,
+    };
+    let q = Pt {
+        x: -8388607,
+        y: -8388607,
+    };
+    let k = through(p, q);
+    let l = Line {
+        a: 1,
+        b: 16777212,
+        c: 140737412857866,
+    };
+    let n = Line {
+        a: 16777213,
+        b: -16777214,
+        c: 8388607,
+    };
     let m = Place {
         x: 4722363386645564096466,
         y: -25165818,
