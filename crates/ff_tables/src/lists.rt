@@ -1,5 +1,5 @@
 //! A list that contracts compare as a value.
-ghost use Rattle.std.specs.Prelude.{◌≡◌, IfOk};
+ghost use Rattle.std.specs.Prelude.{◌≡◌, ◌++◌, ◌∷◌, [], IfOk, OnOk, OnErr, IfSome, None};
 
 use crate::NoMemory;
 use std::alloc::Global;
@@ -32,6 +32,25 @@ impl<T> Items<T> {
         ensures { result.now ≡ self.now }
     {
         self.list.as_slice()
+    }
+}
+
+impl<T: Drop> Items<T> {
+    /// Appends the item. After an error the list is as before.
+    pub fn push(&mut self, item: T) -> Result<(), NoMemory>
+        ensures pushed { OnOk result (self.new ≡ self.old ++ item ∷ []) }
+        ensures kept { OnErr result (self.new ≡ self.old) }
+    {
+        self.list.push(item)?;
+        Ok(())
+    }
+
+    /// Takes back the last item, if there is one. It takes no memory.
+    pub fn pop(&mut self) -> Option<T>
+        ensures some { IfSome result (λ item. self.old ≡ self.new ++ item ∷ []) }
+        ensures none { result ≡ None → (self.old ≡ []) × (self.new ≡ []) }
+    {
+        self.list.pop()
     }
 }
 

@@ -1,5 +1,5 @@
 -- Where a pair stands in a sorted list, and that halving finds it.
-use Rattle.std.proofs.Common.{rules, ◌≡◌, ℕ, zero, suc, ◌+◌, ◌<◌, ◌≤◌, ◌==◌, Bool, true, false, ◌&&◌, ◌||◌, List, [], ◌∷◌, length, refl, sym, ◌∙◌, ap, subst, Some, None, Option, arith, IsTrue, slice_get, if◌then◌else◌, option_map, nat_lt, ◌⊎◌, inl, inr, get_or, Result, Ok, Err, Ordering, Less, Equal, Greater}
+use Rattle.std.proofs.Common.{◌≡◌, ℕ, zero, suc, ◌+◌, ◌<◌, ◌≤◌, ◌==◌, Bool, true, false, ◌&&◌, ◌||◌, List, [], ◌∷◌, length, refl, sym, ◌∙◌, ap, subst, Some, None, Option, arith, IsTrue, slice_get, if◌then◌else◌, option_map, nat_lt, ◌⊎◌, inl, inr, get_or, Result, Ok, Err, Ordering, Less, Equal, Greater}
 use Rattle.std.specs.Ordering.{ordering_then, nat_cmp, is_lt, MatchOrdering}
 use Rattle.std.specs.Cmp.{IsTotalOrder, nat_cmp_is, ranks}
 use Rattle.std.specs.List.Sorted.{IsBinarySearchResult, IsSearchInRange, IsSortedBy, IsPartitionPoint}
