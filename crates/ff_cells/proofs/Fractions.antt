@@ -2,6 +2,7 @@
 use Rattle.std.proofs.Common.{◌≡◌, arith, refl, sym, ap, ◌∙◌, ℤ, pos, ◌*ℤ◌, ◌<ℤ◌, [], ◌∷◌, Ordering}
 use Rattle.std.proofs.Common.Ordering.{Less, Equal, Greater}
 use Rattle.std.specs.Ordering.{int_cmp, is_lt, MatchOrdering}
+use Rattle.std.specs.Int.{int_signum}
 use Rattle.std.specs.Result.{OnOk}
 use Rattle.std.proofs.Common.{Result, List, Bor}
 use denote.Param.Members.{Mut}
@@ -71,6 +72,12 @@ module _ {K : Type 0} (n d : K → ℤ) (above : (k : K) → pos 0 <ℤ d k) whe
     trans = chain;
     congr = same;
   }
+
+-- a line is as high as itself
+pub height_same : (k l : Line) (at : Place) → k ≡ l → Equal ≡ height_cmp k l at
+height_same k l at e =
+    int_cmp_is (int_signum (k.b *ℤ k.b) *ℤ (rise k at *ℤ k.b)) (int_signum (k.b *ℤ k.b) *ℤ (rise k at *ℤ k.b)) Equal refl
+    ∙ (λ i. height_cmp k (e i) at)
 
 -- with both b above 0, `cmp_height` compares the rises
 pub height_as_rise : (k l : Line) (at : Place) → pos 0 <ℤ k.b → pos 0 <ℤ l.b

@@ -13,6 +13,7 @@ mod Emitting
 mod Sweeping
 mod Exact
 mod Strips
+mod Filtering
 mod Reached
 mod Stepping
 mod FaceRings

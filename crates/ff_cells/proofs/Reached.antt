@@ -8,13 +8,14 @@ use Rattle.std.proofs.lemmas.Int.{ints}
 use Rattle.std.proofs.lemmas.List.{get_or_default}
 use Rattle.std.proofs.lemmas.List.Elements.{filter_more}
 use Rattle.std.specs.List.Sorted.{IsPermutation}
-use Rattle.std.proofs.lemmas.List.Sorted.{Contains-permutation, IsPermutation-sym}
+use Rattle.std.proofs.lemmas.List.Sorted.{Contains-permutation, IsPermutation-sym, IsPermutation-trans, IsPermutation-append_left}
 use Rattle.ff_whole.specs.declared.points.Pt.{Pt}
 use Rattle.ff_cells.specs.Steps.{AreBars}
 use Rattle.ff_cells.specs.declared.bars.Bar.{Bar}
 use Rattle.ff_cells.specs.declared.active.Active.{Active}
 use Rattle.ff_cells.specs.Strip.{spans_strip}
 use Rattle.ff_cells.specs.Reached.{AreFromLeft, AreActive, IsReached, lasts}
+use Rattle.ff_cells.proofs.Filtering.{filter_permutation}
 
 pub left_total : IsTotalOrder (λ (a b : Bar). int_cmp a.lo.x b.lo.x)
 left_total = record {
@@ -83,12 +84,12 @@ all_after a bars sorted (suc m) n h d lt =
 
 -- what has been reached spans the strip
 pub spanning : (bars : List Bar) (a c : ℤ) (active : Active) → AreFromLeft bars → AreActive bars a c active
-    → IsReached bars a active.reached → active.bars.items ≡ filter (spans_strip a c) bars
-spanning bars a c active sorted so next = so.are
-    ∙ sym (spanning_front a c bars active.reached (λ k d lt l. so.begun k d lt)
+    → IsReached bars a active.reached → IsPermutation (filter (spans_strip a c) bars) active.bars.items
+spanning bars a c active sorted so next = subst (λ ys. IsPermutation ys active.bars.items)
+    (sym (spanning_front a c bars active.reached (λ k d lt l. so.begun k d lt)
     (λ k d le lt. let e : active.reached + (k - active.reached) ≡ k = omega (arith, le) in
     subst (λ j. a <ℤ (get_or bars j d).lo.x) e (all_after a bars sorted (k - active.reached)
-    active.reached next d (subst (λ j. j < length bars) (sym e) lt))))
+    active.reached next d (subst (λ j. j < length bars) (sym e) lt))))) so.are
 
 -- on to the strip up to c
 pub lasting_on : (bars : List Bar) (a c : ℤ) (active new : Active) → a ≤ℤ c → AreActive bars a a active
@@ -96,8 +97,11 @@ pub lasting_on : (bars : List Bar) (a c : ℤ) (active new : Active) → a ≤�
 lasting_on bars a c active new h so e is = record {
   within = subst (λ n. n ≤ length bars) (sym e) so.within;
   begun = λ k d lt. so.begun k d (subst (λ n. k < n) e lt);
-  are = is ∙ ap (filter (lasts c)) so.are ∙ lasting_again a c h (take active.reached bars)
-      ∙ ap (λ n. filter (lasts c) (take n bars)) (sym e);
+  are = subst (λ n. IsPermutation (filter (lasts c) (take n bars)) new.bars.items) (sym e)
+      (subst (IsPermutation (filter (lasts c) (take active.reached bars))) (sym is)
+      (subst (λ ys. IsPermutation ys (filter (lasts c) active.bars.items))
+      (lasting_again a c h (take active.reached bars))
+      (filter_permutation (lasts c) (filter (lasts a) (take active.reached bars)) active.bars.items so.are)));
 }
 
 -- the strip ends
@@ -117,18 +121,34 @@ pub reached_more : (bars : List Bar) (a c : ℤ) (active new : Active) (b : Bar)
 reached_more bars a c active new b so lt at low e is = record {
   within = omega (arith, lt, e);
   begun = λ k d l. by k d (split k active.reached (subst (λ n. k < n) e l));
-  are = is ∙ ap (λ ys. ys ++ filter (lasts c) (b ∷ [])) so.are ∙ ap (λ x. filter (lasts c) (take active.reached bars)
-      ++ filter (lasts c) (x ∷ [])) at ∙ sym (filter_more (lasts c) bars active.reached b lt)
-      ∙ ap (λ n. filter (lasts c) (take n bars)) (sym e);
+  are = subst (IsPermutation (filter (lasts c) (take new.reached bars))) (sym is)
+      (subst (λ ys. IsPermutation ys (active.bars.items ++ filter (lasts c) (b ∷ []))) is_one_more
+      (IsPermutation-append_left (filter (lasts c) (b ∷ [])) (filter (lasts c) (take active.reached bars))
+      active.bars.items so.are));
 }
   where
     split : (k n : ℕ) → k < n + 1 → (k < n) ⊎ (k ≡ n)
     split k n h = grind arith
 
+    is_one_more : filter (lasts c) (take active.reached bars) ++ filter (lasts c) (b ∷ [])
+        ≡ filter (lasts c) (take new.reached bars)
+    is_one_more = ap (λ x. filter (lasts c) (take active.reached bars) ++ filter (lasts c) (x ∷ [])) at
+        ∙ sym (filter_more (lasts c) bars active.reached b lt) ∙ ap (λ n. filter (lasts c) (take n bars)) (sym e)
+
     by : (k : ℕ) (d : Bar) → (k < active.reached) ⊎ (k ≡ active.reached) → (get_or bars k d).lo.x ≤ℤ a
     by k d (inl h) = so.begun k d h
     by k d (inr h) = subst (λ (x : Bar). x.lo.x ≤ℤ a)
         (at ∙ get_or_default bars active.reached b d lt ∙ ap (λ j. get_or bars j d) (sym h)) low
+
+-- the bars that span the strip change places
+pub active_moved : (bars : List Bar) (a c : ℤ) (active new : Active) → new.reached ≡ active.reached
+    → IsPermutation active.bars.items new.bars.items → AreActive bars a c active → AreActive bars a c new
+active_moved bars a c active new e same so = record {
+  within = subst (λ n. n ≤ length bars) (sym e) so.within;
+  begun = λ k d lt. so.begun k d (subst (λ n. k < n) e lt);
+  are = subst (λ n. IsPermutation (filter (lasts c) (take n bars)) new.bars.items) (sym e)
+      (IsPermutation-trans _ _ _ so.are same);
+}
 
 -- the bars in another order are the same bars
 pub bars_moved : (points : List Pt) (rings : List (List ℕ)) (up : List Bool) (bars moved : List Bar)

@@ -22,7 +22,7 @@ use Rattle.ff_types.specs.declared.refusals.No.{No}
 use Rattle.ff_types.specs.declared.refusals.No.TheVariants.{Refused, NoMemory}
 use Rattle.ff_types.specs.declared.limits.TheConstants.{MOST_CELLS}
 use Rattle.ff_cells.specs.declared.found.Found.{Found}
-use Rattle.ff_cells.specs.Tally.{capped, IsTally, Adds}
+use Rattle.ff_cells.specs.Tally.{capped, IsTally, Adds, StaysFew}
 use Rattle.ff_cells.specs.Stopped.{IsStopped, IsSweptBetween, AreSwept, AreStopped}
 use Rattle.ff_cells.specs.Strip.{spans_strip, at_x, IsCells}
 use Rattle.ff_cells.proofs.Ends.{IsStartSorted, starts_up, run_of_before, to_go, next_is_less}
@@ -77,6 +77,50 @@ slab_same bars other limit left right cs same s =
       next = s.next;
       emitted = s.emitted;
     }
+
+pub swept_same : (bars other : List Bar) (from limit : Place) (n : ℕ) (left : Place) (cs : List Cell)
+    → IsPermutation bars other → IsSwept other from limit n left cs → IsSwept bars from limit n left cs
+swept_same bars other from limit zero left cs same s = s
+swept_same bars other from limit (suc n) left cs same (prev, before, more, is, swept, slab) = (
+  prev,
+  before,
+  more,
+  is,
+  swept_same bars other from limit n prev before same swept,
+  slab_same bars other limit prev left more same slab,
+)
+
+pub between_same : (bars : List Bar) (a c : ℤ) (other : List Bar) (old new : Found) (from limit : Place)
+    → from ≡ at_x a → limit ≡ at_x c → IsPermutation (filter (spans_strip a c) bars) other
+    → (n : ℕ) × (last : Place) × (more : List Cell) × Adds old more new × StaysFew old new
+    × (x_before last limit ≡ false) × IsSwept other from limit n last more
+    → IsSweptBetween bars a c old new
+between_same bars a c other old new from limit f l same (n, last, more, adds, few, past, swept) = (
+  n,
+  last,
+  more,
+  adds,
+  few,
+  subst (λ t. x_before last t ≡ false) l past,
+  swept_same (filter (spans_strip a c) bars) other (at_x a) (at_x c) n last more same
+      (subst (λ t. IsSwept other (at_x a) t n last more) l
+      (subst (λ t. IsSwept other t limit n last more) f swept)),
+)
+
+stopped_same : (bars other : List Bar) (from limit : Place) (old : Found) (why : No) → IsPermutation bars other
+    → IsStopped other from limit old why → IsStopped bars from limit old why
+stopped_same bars other from limit old NoMemory same s = tt
+stopped_same bars other from limit old (Refused r) same (is, s) = (
+  is,
+  λ all t. let u = s all t in (u.0, u.1, u.2, swept_same bars other from limit u.0 u.1 u.2 same u.3, u.4),
+)
+
+pub stopped_between : (bars : List Bar) (a c : ℤ) (other : List Bar) (from limit : Place) (old : Found) (why : No)
+    → from ≡ at_x a → limit ≡ at_x c → IsPermutation (filter (spans_strip a c) bars) other
+    → IsStopped other from limit old why → IsStopped (filter (spans_strip a c) bars) (at_x a) (at_x c) old why
+stopped_between bars a c other from limit old why f l same s =
+    stopped_same (filter (spans_strip a c) bars) other (at_x a) (at_x c) old why same
+    (subst (λ t. IsStopped other (at_x a) t old why) l (subst (λ t. IsStopped other t limit old why) f s))
 
 pub adds_both : (a b c : Found) (xs ys : List Cell) → Adds a xs b → Adds b ys c → Adds a (xs ++ ys) c
 adds_both a b c xs ys f g all t = subst (λ zs. IsTally zs c) (append_assoc all xs ys)

@@ -2,7 +2,7 @@
 -- For the proofs of this crate alone.
 use Rattle.std.specs.Prelude.{ℕ, ℤ, ◌≡◌, ◌<◌, ◌≤◌, ◌<ℤ◌, ◌≤ℤ◌, Bool, List, length, filter, take, slice_index_or, int_le}
 use Rattle.std.specs.Ordering.{int_cmp, is_lt}
-use Rattle.std.specs.List.Sorted.{IsSortedBy}
+use Rattle.std.specs.List.Sorted.{IsSortedBy, IsPermutation}
 use Rattle.ff_cells.specs.declared.bars.Bar.{Bar}
 use Rattle.ff_cells.specs.declared.active.Active.{Active}
 
@@ -14,11 +14,11 @@ AreFromLeft bars = IsSortedBy (λ a b. is_lt (int_cmp a.lo.x b.lo.x)) bars
 abbrev pub lasts : ℤ → Bar → Bool
 lasts c b = int_le c b.hi.x
 
--- the bars reached begin at a or before, and those of them are there that don't end before c
+-- the bars reached begin at a or before, and those of them are there, in any order, that don't end before c
 pub record AreActive (bars : List Bar) (a c : ℤ) (active : Active) : Type 0 where
   pub within : active.reached ≤ length bars
   pub begun : (k : ℕ) (d : Bar) → k < active.reached → (slice_index_or bars k d).lo.x ≤ℤ a
-  pub are : active.bars.items ≡ filter (lasts c) (take active.reached bars)
+  pub are : IsPermutation (filter (lasts c) (take active.reached bars)) active.bars.items
 
 -- the next bar begins after a
 abbrev pub IsReached : List Bar → ℤ → ℕ → Type 0

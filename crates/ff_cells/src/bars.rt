@@ -9,7 +9,8 @@ ghost use Rattle.ff_cells.specs.Gap.{gap, run};
 ghost use Rattle.ff_cells.specs.Start.{slope_cmp, start_cmp, starts_lower, ClosesAt};
 
 use crate::border::Border;
-use ff_whole::{Line, Pt, cmp_height, meet};
+use crate::heights::cmp_at;
+use ff_whole::{Line, Pt, meet};
 use std::alloc::AllocError;
 use std::cmp::Ordering;
 
@@ -39,7 +40,7 @@ impl Bar {
     pub fn by_start(&self, other: &Bar, at: &Border) -> Ordering
         ensures { result ≡ start_cmp at.now.place self.now.line other.now.line }
     {
-        let by_height = cmp_height(self.line, other.line, at.place);
+        let by_height = cmp_at(self.line, other.line, at.place);
         by_height.then(cmp_slope(self.line, other.line))
     }
 }
@@ -60,7 +61,7 @@ pub fn crossing(low: &Bar, high: &Bar, right: &Border) -> Option<Border>
         × (slant low.now.line high.now.line ≢ pos 0) × (height low.now.line m.place ≡ pos 0)
         × (height high.now.line m.place ≡ pos 0)) }
 {
-    match cmp_height(low.line, high.line, right.place) {
+    match cmp_at(low.line, high.line, right.place) {
         Ordering::Greater => match meet(low.line, high.line) {
             Some(place) => Some(Border { place }),
             None => None,

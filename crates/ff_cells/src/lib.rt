@@ -8,6 +8,7 @@ mod border;
 mod cell;
 mod face_lists;
 mod found;
+mod heights;
 mod laws;
 mod layers;
 mod reaching;

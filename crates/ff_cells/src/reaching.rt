@@ -17,12 +17,6 @@ pub fn sort_from_left(v: &mut Vec<Bar>) -> Result<(), AllocError>
     v.sort_by(|a: &Bar, b: &Bar| a.lo.x.cmp(&b.lo.x))
 }
 
-pub fn copied(alloc: Global, bars: &[Bar]) -> Result<Vec<Bar>, NoMemory>
-    ensures { IfOk result (λ v. v.items ≡ bars.now) }
-{
-    Ok(Vec::from_slice(alloc, bars)?)
-}
-
 // The bars that go on up to `c`.
 fn lasting(alloc: Global, bars: &[Bar], c: i64) -> Result<Vec<Bar>, NoMemory>
     ensures { IfOk result (λ v. v.items ≡ filter (lasts c) bars.now) }
@@ -68,7 +62,7 @@ pub fn enter(
     requires rising { a ≤ℤ c }
     requires so_far { AreActive bars.now a a active.old }
     ensures kept { OnOk result (AreActive bars.now c c active.new) }
-    ensures spanning { OnOk result (active.new.bars.items ≡ filter (spans_strip a c) bars.now) }
+    ensures spanning { OnOk result (IsPermutation (filter (spans_strip a c) bars.now) active.new.bars.items) }
 {
     active.bars = lasting(alloc, active.bars.as_slice(), c)?;
     reach(active, bars, a, c)

@@ -14,8 +14,8 @@ use crate::adding::add;
 use crate::bars::Bar;
 use crate::border::Border;
 use crate::found::Found;
+use crate::heights::cmp_at;
 use ff_tables::NoMemory;
-use ff_whole::cmp_height;
 use std::alloc::Global;
 use std::cmp::Ordering;
 
@@ -48,8 +48,8 @@ pub fn opening(low: &Bar, high: &Bar, left: &Border, right: &Border) -> Option<B
         × (gap low.now.line high.now.line right.now.place ≡ pos 0))
         (λ top. OpensAt left.now.place right.now.place low.now.line high.now.line top.place) }
 {
-    match cmp_height(low.line, high.line, left.place) {
-        Ordering::Equal => match cmp_height(low.line, high.line, right.place) {
+    match cmp_at(low.line, high.line, left.place) {
+        Ordering::Equal => match cmp_at(low.line, high.line, right.place) {
             Ordering::Equal => None,
             _ => Some(*right),
         },

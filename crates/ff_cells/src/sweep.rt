@@ -25,7 +25,7 @@ use crate::adding::nothing;
 use crate::bars::{Bar, crossing, sort_bars};
 use crate::border::Border;
 use crate::found::Found;
-use crate::reaching::{copied, enter};
+use crate::reaching::enter;
 use crate::slab::slab;
 use ff_tables::NoMemory;
 use ff_types::{MOST_CELLS, No, Refusal, What};
@@ -76,22 +76,23 @@ fn next_slab(
 }
 
 // Adds the cells of the slabs between two neighbouring ends of bars, from left to right, where the bars span the strip.
+// They are left in the order of the last slab.
 pub fn strip(
     alloc: Global,
-    bars: Vec<Bar>,
+    bars: &mut Vec<Bar>,
     from: Border,
     limit: Border,
     found: &mut Found,
 ) -> Result<(), No>
+    ensures same { IsPermutation bars.old.items bars.new.items }
     ensures done { OnOk result ((n : ℕ) × (last : PlaceRow) × (more : List CellRow)
         × Adds found.old more found.new × StaysFew found.old found.new × (x_before last limit.place ≡ false)
-        × IsSwept bars.items from.place limit.place n last more) }
-    ensures stopped { IfErr result (IsStopped bars.items from.place limit.place found.old) }
+        × IsSwept bars.old.items from.place limit.place n last more) }
+    ensures stopped { IfErr result (IsStopped bars.old.items from.place limit.place found.old) }
 {
-    let mut active = bars;
     let mut left = from;
     'borders: while left.by_x(&limit) == Ordering::Less {
-        left = next_slab(alloc, &mut active, &left, limit, found)?;
+        left = next_slab(alloc, bars, &left, limit, found)?;
         if found.count > MOST_CELLS {
             return Err(too_many(What::Cells, MOST_CELLS));
         }
@@ -136,8 +137,7 @@ fn between(
         return Ok(());
     }
     enter(alloc, active, bars, a, c)?;
-    let spanning = copied(alloc, active.bars.as_slice())?;
-    strip(alloc, spanning, border_at(a), border_at(c), found)
+    strip(alloc, &mut active.bars, border_at(a), border_at(c), found)
 }
 
 // Adds the cells of the strip that ends at the x with the number `j`, where those of all strips before it are found.

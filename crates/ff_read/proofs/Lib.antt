@@ -4,4 +4,5 @@ pub mod OneReading
 mod Sizes
 mod Good
 mod SeenEdges
+mod SortedEdges
 mod Texts

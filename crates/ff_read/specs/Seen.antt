@@ -1,6 +1,6 @@
 -- Edges of which each is new: a set of numbers, one for the two vertices that an edge joins.
 -- For the proofs of this crate alone.
-use Rattle.std.specs.Prelude.{ℕ, ◌≡◌, ◌<◌, ◌^◌, ◌*◌, ◌+◌, min, max, List, [], ◌∷◌, ◌++◌, length, Bool, true, false}
+use Rattle.std.specs.Prelude.{ℕ, ◌≡◌, ◌<◌, ◌^◌, ◌*◌, ◌+◌, min, max, List, [], ◌∷◌, ◌++◌, length, slice_index, Bool, true, false}
 use Rattle.std.specs.BTreeSet.{contains, BTreeSet}
 use Rattle.std.specs.Ordering.{nat_cmp}
 use Rattle.ff_types.specs.declared.patterns.EdgeEnds.{EdgeEnds}
@@ -10,6 +10,10 @@ use Rattle.ff_read.specs.Refused.{AreEdges, IsNewEdge}
 -- the two ends as one number, whichever comes first
 abbrev pub edge_key : EdgeEnds → ℕ
 edge_key e = min e.a e.b * 2 ^ 32 + max e.a e.b
+
+-- each of the first n numbers is below those of them that follow it
+abbrev pub AreRising : List ℕ → ℕ → Type 0
+AreRising keys n = (i j : ℕ) → i < j → j < n → slice_index keys i < slice_index keys j
 
 -- the numbers of the set are those of the edges, and each edge was new
 pub record HaveSeen (n : ℕ) (edges : List EdgeEnds) (seen : BTreeSet ℕ) : Type 0 where

@@ -16,5 +16,5 @@ returns-in-Some c =
 pub returns-in_default : goal.returns-in_default
 returns-in_default c =
     let k = c.args.low.now in let l = c.args.high.now in
-    inl (gap_not_greater k.line l.line c.args.right.now.place c.cmp_height.result k.ok.rising.rises
-    l.ok.rising.rises c.cmp_height.ensures c.in_default.not-Greater)
+    inl (gap_not_greater k.line l.line c.args.right.now.place c.cmp_at.result k.ok.rising.rises
+    l.ok.rising.rises c.cmp_at.ensures c.in_default.not-Greater)

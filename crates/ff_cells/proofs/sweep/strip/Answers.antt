@@ -10,12 +10,12 @@ borders-smaller c =
     let less = ap is_lt (sym c.by_x.ensures) ∙ is_less c.by_x.result (sym c.eq.ensures ∙ c.borders-test.true)
     in
     let d = c.in_ok-left.ensures.done in
-    slab_is_less c.args.bars.items c.borders.active.items c.args.limit.place c.borders.left.place
+    slab_is_less c.args.bars.now.items c.borders.bars.items c.args.limit.place c.borders.left.place
     c.in_ok-left.left.place d.0 c.in_ok-left.left.ok.positive less c.borders.invariant.same d.2
 
 pub borders-preserved : goal.borders-preserved
 borders-preserved c =
-    let bars = c.args.bars.items in let from = c.args.from.place in let limit = c.args.limit.place in
+    let bars = c.args.bars.now.items in let from = c.args.from.place in let limit = c.args.limit.place in
     let inv = c.borders.invariant in
     let d = c.in_ok-left.ensures.done in
     record {
@@ -25,22 +25,30 @@ borders-preserved c =
           c.borders.found c.next_slab.new.found (
             d.0,
             d.1,
-            slab_same bars c.borders.active.items limit
+            slab_same bars c.borders.bars.items limit
                 c.borders.left.place c.in_ok-left.left.place d.0 inv.same d.2,
           ) inv.swept;
     }
 
 pub returns-then-found-gt-MOST_CELLS-clause-stopped : goal.returns-then-found-gt-MOST_CELLS-clause-stopped
 returns-then-found-gt-MOST_CELLS-clause-stopped c =
-    let bars = c.args.bars.items in let from = c.args.from.place in let limit = c.args.limit.place in
+    let bars = c.args.bars.now.items in let from = c.args.from.place in let limit = c.args.limit.place in
     let inv = c.borders.invariant in
     let d = c.in_ok-left.ensures.done in
     let s = swept_one bars from limit c.borders.left.place c.in_ok-left.left.place c.args.found.now
     c.borders.found c.next_slab.new.found (
       d.0,
       d.1,
-      slab_same bars c.borders.active.items limit
+      slab_same bars c.borders.bars.items limit
           c.borders.left.place c.in_ok-left.left.place d.0 inv.same d.2,
     ) inv.swept in
     too_many_found bars from limit c.in_ok-left.left.place c.args.found.now c.next_slab.new.found
     c.too_many.result s c.if-found-gt-MOST_CELLS.true c.too_many.ensures
+
+pub returns-in_err-left-clause-same : goal.returns-in_err-left-clause-same
+returns-in_err-left-clause-same c =
+    IsPermutation-trans _ _ _ c.borders.invariant.same c.next_slab.ensures.same
+
+pub returns-then-found-gt-MOST_CELLS-clause-same : goal.returns-then-found-gt-MOST_CELLS-clause-same
+returns-then-found-gt-MOST_CELLS-clause-same c =
+    IsPermutation-trans _ _ _ c.borders.invariant.same c.next_slab.ensures.same

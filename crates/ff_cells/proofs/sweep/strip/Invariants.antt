@@ -6,7 +6,7 @@ use Rattle.ff_cells.proofs.sweep.strip.Given as goal
 
 abbrev pub invariant-borders : goal.invariant-borders
 invariant-borders l = record {
-  same : IsPermutation l.fn.bars.items l.active.items;
+  same : IsPermutation l.fn.bars.items l.bars.items;
   few : StaysFew l.fn.found l.found;
   swept : Swept l.fn.bars.items l.fn.from.place l.fn.limit.place l.left.place l.fn.found l.found;
 }

@@ -3,7 +3,7 @@ use Rattle.serde_json.specs.View.{view}
 use Rattle.ff_read.specs.Spelling.{ends_of}
 use Rattle.ff_read.specs.Seen.{Adds}
 use Rattle.ff_read.proofs.Lists.{get_view, all_of-more}
-use Rattle.ff_read.proofs.edges.edges_of.Goals as goal
+use Rattle.ff_read.proofs.edges.one_by_one.Goals as goal
 
 pub returns-in_default : goal.returns-in_default
 returns-in_default c = record {
