@@ -8,6 +8,7 @@ use Rattle.std.specs.List.Sorted.{IsPermutation}
 use Rattle.std.proofs.lemmas.List.Sorted.{IsPermutation-sym}
 use Rattle.std.proofs.lemmas.Map.Keys.{apart_from_distinct, IsDistinct-from_apart, IsDistinct-IsPermutation}
 use Rattle.std.proofs.lemmas.Bool.Decides.{nat_tests}
+use Rattle.ff_basics.proofs.Numbers.{last_or}
 use Rattle.ff_types.specs.declared.patterns.EdgeEnds.{EdgeEnds}
 use Rattle.ff_types.specs.Patterns.{edge_at}
 use Rattle.ff_read.specs.Refused.{IsSameEdge}
@@ -16,15 +17,12 @@ use Rattle.ff_read.proofs.SeenEdges.{key_same}
 
 -- ---- rising numbers
 
-split : (k n : ℕ) → k < n + 1 → (k < n) ⊎ (k ≡ n)
-split k n h = grind arith
-
 pub rising_start : (keys : List ℕ) → AreRising keys 1
 rising_start keys i j h l = absurd (omega (arith, h, l))
 
 pub rising_more : (keys : List ℕ) (n : ℕ) → 0 < n → AreRising keys n → get_or keys (n - 1) 0 < get_or keys n 0
     → AreRising keys (n + 1)
-rising_more keys n one up next i j h l = by (split j n l)
+rising_more keys n one up next i j h l = by (last_or j n l)
   where
     last : (i ≡ n - 1) ⊎ (i < n - 1) → get_or keys i 0 < get_or keys n 0
     last (inl e) = subst (λ k. get_or keys k 0 < get_or keys n 0) (sym e) next
