@@ -87,4 +87,3 @@ get_either [] y x zero e = inr (refl, sym (some_same e))
 get_either [] y x (suc n) e = absurd (omega (arith, slice_get_within [] n x e))
 get_either (z ∷ xs) y x zero e = inl e
 get_either (z ∷ xs) y x (suc n) e = elim (get_either xs y x n e) [ inl d ↦ inl d | inr d ↦ inr (ap suc d.0, d.1) ]
-

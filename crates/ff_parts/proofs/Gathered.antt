@@ -1,9 +1,9 @@
 -- Variables are put to the lists of their labels.
-use Rattle.std.proofs.Common.{◌≡◌, ℕ, zero, suc, ◌+◌, ◌-◌, ◌<◌, ◌≤◌, ◌⊎◌, inl, inr, List, [], ◌∷◌, ◌++◌, length, replicate, get_or, set, slice_index, slice_get, Some, refl, sym, ap, ◌∙◌, subst, arith, if◌then◌else◌, Vec}
+use Rattle.std.proofs.Common.{◌≡◌, ℕ, zero, suc, ◌-◌, ◌<◌, ◌≤◌, ◌⊎◌, inl, inr, List, [], ◌∷◌, ◌++◌, length, get_or, set, slice_index, slice_get, Some, refl, sym, ap, ◌∙◌, subst, arith, if◌then◌else◌, Vec}
 use Rattle.std.specs.declared.alloc.Global.{Global}
 use Rattle.std.proofs.lemmas.Option.{slice_get_within, get_or_from_slice_get}
 use Rattle.std.proofs.lemmas.Bool.{cases_eq, eq-eqb, ne_eqb}
-use Rattle.std.proofs.lemmas.List.{map_push, get_or-map, replicate_more, get_or_append_left, get_or_push, length-append}
+use Rattle.std.proofs.lemmas.List.{get_or-map, get_or_append_left, get_or_push, length-append}
 use Rattle.ff_basics.specs.NumberedLists.{lists_in}
 use Rattle.ff_parts.specs.Gathers.{members, Gathers, putting}
 use Rattle.ff_propagate.proofs.Joining.{Stands}

@@ -1,7 +1,6 @@
 -- The variables of each label.
 -- For the proofs of this crate alone.
-use Rattle.std.specs.Prelude.{◌≡◌, ℕ, zero, suc, ◌<◌, ◌==◌, ◌++◌, List, [], ◌∷◌, length, map, slice_index, slice_index_or, slice_set, if◌then◌else◌, Vec}
-use Rattle.std.specs.declared.alloc.Global.{Global}
+use Rattle.std.specs.Prelude.{◌≡◌, ℕ, zero, suc, ◌<◌, ◌==◌, ◌++◌, List, [], ◌∷◌, length, slice_index, slice_index_or, slice_set, if◌then◌else◌}
 
 -- of the numbers below n those at which the label stands, in increasing order
 abbrev pub members : List ℕ → ℕ → ℕ → List ℕ

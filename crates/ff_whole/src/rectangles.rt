@@ -3,8 +3,8 @@ ghost use Rattle.std.specs.Prelude.{◌≤ℤ◌};
 ghost use Rattle.ff_whole.specs.Points.{IsNear};
 ghost use Rattle.ff_whole.specs.Sizes.{IsBelow};
 
-use crate::points::Pt;
 use crate::POINT_SIZE;
+use crate::points::Pt;
 
 fn lesser(a: i64, b: i64) -> i64
     requires a_size { IsBelow POINT_SIZE a }
