@@ -1,6 +1,7 @@
 //! The transitivity constraints of a folded sheet: which three faces have a common place.
 #![tactic(auto)]
 
+mod bounds;
 mod found;
 mod index;
 mod listed;

@@ -11,6 +11,7 @@ ghost use Rattle.ff_trans.specs.Triples.{AreTriples, WhyNoTriples};
 ghost use Rattle.ff_cells.specs.declared.cell.Cell.{Cell as CellRow};
 ghost use Rattle.ff_trans.specs.Rows.{IsFirst, IsRow, HoldBoth, AreIndexed, IsClear, IsReach, AreFoundTo};
 
+use crate::bounds::most_triples;
 use crate::found::Found;
 use crate::index::index;
 use crate::marking::mark_row;
@@ -18,7 +19,7 @@ use crate::taking::take;
 use crate::width::width;
 use ff_cells::Cell;
 use ff_tables::{Items, NoMemory};
-use ff_types::{Listing, No, Pairs};
+use ff_types::{Listing, MOST_CONSTRAINTS, No, Pairs};
 use std::alloc::Global;
 
 // Takes the triple of the pair with the number `n` and the face `k`, if they share a cell.
@@ -167,7 +168,33 @@ fn clear_row(alloc: Global, width: usize) -> Result<Vec<Option<usize>>, NoMemory
     Ok(vec![in alloc; None; width]?)
 }
 
-// The triples of all pairs, counted first and then listed.
+// Counts the triples, where there may be too many, so that none is made then.
+fn count_first(
+    alloc: Global,
+    cells: &[Cell],
+    pairs: &Pairs,
+    lists: &[Vec<usize>],
+    row: &mut [Option<usize>],
+) -> Result<(), No>
+    requires few { length row.old ≤ most_faces }
+    requires wide { length lists.now ≡ length row.old }
+    requires lists { All IsFaceList cells.now }
+    requires below { All (λ c. All (λ f. f < length row.old) c.faces) cells.now }
+    requires pairs { ArePairsOf cells.now pairs.now }
+    requires index { AreIndexed cells.now (length cells.now) (length lists.now) (lists_in lists.now) }
+    requires clear { IsClear row.old }
+    ensures long { OnOk result (length row.new ≡ length row.old) }
+    ensures clear { OnOk result (IsClear row.new) }
+    ensures refused { IfErr result (AreNoTriples cells.now pairs.now) }
+{
+    if most_triples(pairs) <= MOST_CONSTRAINTS {
+        return Ok(());
+    }
+    let mut counted = nothing(alloc, false);
+    take_pairs(&mut counted, cells, pairs, lists, row)
+}
+
+// The triples of all pairs, listed once it is known that there aren't too many.
 fn listed_triples(alloc: Global, cells: &[Cell], pairs: &Pairs) -> Result<Listing, No>
     requires cells { All IsFaceList cells.now }
     requires pairs { ArePairsOf cells.now pairs.now }
@@ -177,14 +204,7 @@ fn listed_triples(alloc: Global, cells: &[Cell], pairs: &Pairs) -> Result<Listin
 {
     let lists = index(alloc, cells, width(cells))?;
     let mut row = clear_row(alloc, lists.len())?;
-    let mut counted = nothing(alloc, false);
-    take_pairs(
-        &mut counted,
-        cells,
-        pairs,
-        lists.as_slice(),
-        row.as_mut_slice(),
-    )?;
+    count_first(alloc, cells, pairs, lists.as_slice(), row.as_mut_slice())?;
     let mut listed = nothing(alloc, true);
     take_pairs(
         &mut listed,

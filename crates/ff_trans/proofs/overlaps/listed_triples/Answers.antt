@@ -6,7 +6,7 @@ use Rattle.ff_trans.proofs.overlaps.listed_triples.Goals as goal
 
 pub returns-clause-made : goal.returns-clause-made
 returns-clause-made c =
-    let made = c.in_ok-take_pairs-2.ensures in
+    let made = c.in_ok-take_pairs.ensures in
     let so = made.found in
     let is = so.kept (made.keeps ∙ c.nothing-listed.ensures.keeps) in
     subst (AreTriples c.args.cells.now c.args.pairs.now) (sym is)
@@ -14,7 +14,7 @@ returns-clause-made c =
 
 pub returns-clause-few : goal.returns-clause-few
 returns-clause-few c =
-    let made = c.in_ok-take_pairs-2.ensures in
+    let made = c.in_ok-take_pairs.ensures in
     let so = made.found in
     let is = so.kept (made.keeps ∙ c.nothing-listed.ensures.keeps) in
     subst (λ xs. length xs ≤ MOST_CONSTRAINTS) (sym is) so.room
