@@ -3,7 +3,7 @@ use Rattle.std.proofs.Common.{◌≡◌, ◌⊎◌, inl, inr, ℕ, zero, suc, �
 use Rattle.std.specs.List.{Contains}
 use Rattle.std.proofs.lemmas.List.{get_or_default}
 use Rattle.std.proofs.lemmas.List.Elements.{Contains-get_or}
-use Rattle.ff_basics.proofs.Numbers.{last_or, which}
+use Rattle.ff_basics.proofs.Numbers.{below_or_last, which}
 use Rattle.ff_types.specs.declared.patterns.EdgeEnds.{EdgeEnds}
 use Rattle.ff_types.specs.Patterns.{edge_at}
 use Rattle.ff_types.specs.Drawings.{joins, joined}
@@ -138,11 +138,11 @@ hold edges (suc n) l = both (hold edges n (omega (arith, l))) where
               | inr k ↦ h.only r k
             ]
           ];
-          first = λ k i. elim (last_or k n i) [
+          first = λ k i. elim (below_or_last n k i) [
             | inl j ↦ o.1.keeps _ (m.1.keeps _ (h.first k j))
             | inr f ↦ subst (λ (j : ℕ). Contains o.0 (record { tail = (edge_at edges j).a; head = (edge_at edges j).b })) (sym f) (o.1.keeps _ m.1.has)
           ];
-          second = λ k i. elim (last_or k n i) [
+          second = λ k i. elim (below_or_last n k i) [
             | inl j ↦ o.1.keeps _ (m.1.keeps _ (h.second k j))
             | inr f ↦ subst (λ (j : ℕ). Contains o.0 (record { tail = (edge_at edges j).b; head = (edge_at edges j).a })) (sym f) o.1.has
           ];
@@ -185,10 +185,10 @@ some_start darts q o = let f = first (length darts) (omega arith) in (f.0, recor
   first (suc n) l = by (which_dart (dart_at darts n) q) (first n (omega (arith, l))) where
     still : (ComesBefore (dart_at darts n) q → ⊥) → (s : ℕ) × (s ≤ n) × ((k : ℕ) → k < s → ComesBefore (dart_at darts k) q) × ((k : ℕ) → s ≤ k → k < n → ComesBefore (dart_at darts k) q → ⊥)
         → (s : ℕ) × (s ≤ suc n) × ((k : ℕ) → k < s → ComesBefore (dart_at darts k) q) × ((k : ℕ) → s ≤ k → k < suc n → ComesBefore (dart_at darts k) q → ⊥)
-    still not (s, m, b, a) = (s, omega (arith, m), b, λ k i j. elim (last_or k n j) [ inl x ↦ a k i x | inr e ↦ subst (λ k. ComesBefore (dart_at darts k) q → ⊥) (sym e) not ])
+    still not (s, m, b, a) = (s, omega (arith, m), b, λ k i j. elim (below_or_last n k j) [ inl x ↦ a k i x | inr e ↦ subst (λ k. ComesBefore (dart_at darts k) q → ⊥) (sym e) not ])
 
     by : ComesBefore (dart_at darts n) q ⊎ (ComesBefore q (dart_at darts n) ⊎ (dart_at darts n ≡ q)) → (s : ℕ) × (s ≤ n) × ((k : ℕ) → k < s → ComesBefore (dart_at darts k) q) × ((k : ℕ) → s ≤ k → k < n → ComesBefore (dart_at darts k) q → ⊥)
         → (s : ℕ) × (s ≤ suc n) × ((k : ℕ) → k < s → ComesBefore (dart_at darts k) q) × ((k : ℕ) → s ≤ k → k < suc n → ComesBefore (dart_at darts k) q → ⊥)
-    by (inl x) f = (suc n, omega arith, (λ k m. elim (last_or k n m) [ inl i ↦ before_trans (dart_at darts k) (dart_at darts n) q (o.rises k n i l) x | inr e ↦ subst (λ k. ComesBefore (dart_at darts k) q) (sym e) x ]), λ k m i. absurd (omega (arith, m, i)))
+    by (inl x) f = (suc n, omega arith, (λ k m. elim (below_or_last n k m) [ inl i ↦ before_trans (dart_at darts k) (dart_at darts n) q (o.rises k n i l) x | inr e ↦ subst (λ k. ComesBefore (dart_at darts k) q) (sym e) x ]), λ k m i. absurd (omega (arith, m, i)))
     by (inr (inl x)) f = still (λ y. not_before_itself q (before_trans q (dart_at darts n) q x y)) f
     by (inr (inr e)) f = still (λ y. not_before_itself q (subst (λ (d : Dart). ComesBefore d q) e y)) f

@@ -1,6 +1,6 @@
 -- It can't be that a pattern has no faces and yet nothing is refused.
 use Rattle.std.proofs.Common.{◌≡◌, ◌⊎◌, inl, inr, ℕ, zero, suc, ◌<◌, ◌≤◌, List, length, Option, Some, None, IsTrue, arith, refl, sym, subst}
-use Rattle.ff_basics.proofs.Numbers.{last_or}
+use Rattle.ff_basics.proofs.Numbers.{below_or_last}
 use Rattle.ff_whole.specs.declared.points.Pt.{Pt}
 use Rattle.ff_types.specs.declared.limits.TheConstants.{MOST_FACES}
 use Rattle.ff_types.specs.declared.patterns.EdgeEnds.{EdgeEnds}
@@ -38,7 +38,7 @@ use Rattle.ff_planar.proofs.SomeTraces.{choose, some_trace}
 none_fails : (P : ℕ → Type 0) (n : ℕ) → ((k : ℕ) → k < n → (P k → ⊥) → ⊥) → (((k : ℕ) → k < n → P k) → ⊥) → ⊥
 none_fails P zero h no_all = no_all (λ k l. absurd (omega (arith, l)))
 none_fails P (suc n) h no_all = h n (omega arith) (λ p. none_fails P n (λ k l. h k (omega (arith, l)))
-    (λ all. no_all (λ k l. elim (last_or k n l) [ inl m ↦ all k m | inr e ↦ subst P (sym e) p ])))
+    (λ all. no_all (λ k l. elim (below_or_last n k l) [ inl m ↦ all k m | inr e ↦ subst P (sym e) p ])))
 
 -- ---- where nothing is refused there is no reason
 
@@ -56,14 +56,14 @@ module _ (points : List Pt) (edges : List EdgeEnds) (marks : Option (List Mark))
   no_reason n past h a b = below (suc a) a b (omega arith) where
     at : (a : ℕ) → ((c d : ℕ) → c < a → At n c d → ⊥) → (b d : ℕ) → d < b → At n a d → ⊥
     at a less zero d l = absurd (omega (arith, l))
-    at a less (suc b) d l = elim (last_or d b l) [
+    at a less (suc b) d l = elim (below_or_last b d l) [
       | inl m ↦ at a less b d m
       | inr e ↦ λ x. h a d (record { there = x; past = past; least = less; least_second = λ c m. at a less b c (omega (arith, m, e)) })
     ]
 
     below : (a c d : ℕ) → c < a → At n c d → ⊥
     below zero c d l = absurd (omega (arith, l))
-    below (suc a) c d l = elim (last_or c a l) [ inl m ↦ below a c d m | inr e ↦ subst (λ c. At n c d → ⊥) (sym e) (at a (below a) (suc d) d (omega arith)) ]
+    below (suc a) c d l = elim (below_or_last a c l) [ inl m ↦ below a c d m | inr e ↦ subst (λ c. At n c d → ⊥) (sym e) (at a (below a) (suc d) d (omega arith)) ]
 
   none_same : Past 1 → Never (SamePointAt points)
   none_same p v h = p.none 0 v 0 (omega arith) (h, refl)

@@ -1,6 +1,6 @@
 -- The refusals of faces by stages: each stage has a reason with two numbers, and the first that holds is the refusal.
 use Rattle.std.proofs.Common.{◌≡◌, ◌⊎◌, inl, inr, ℕ, zero, suc, ◌<◌, List, Option, arith, refl, sym, ap, ◌∙◌, subst}
-use Rattle.ff_basics.proofs.Numbers.{last_or, which}
+use Rattle.ff_basics.proofs.Numbers.{below_or_last, which}
 use Rattle.ff_whole.specs.declared.points.Pt.{Pt}
 use Rattle.ff_types.specs.declared.patterns.EdgeEnds.{EdgeEnds}
 use Rattle.ff_types.specs.declared.patterns.Mark.{Mark}
@@ -57,7 +57,7 @@ module _ (points : List Pt) (edges : List EdgeEnds) (marks : Option (List Mark))
   past_none = record { none = λ m a b l. absurd (omega (arith, l)) }
 
   pub past_more : (n : ℕ) → IsPast n → ((a b : ℕ) → Reason n a b → ⊥) → IsPast (suc n)
-  past_more n p h = record { none = λ m a b l. elim (last_or m n l) [ inl k ↦ p.none m a b k | inr e ↦ subst (λ i. Reason i a b → ⊥) (sym e) (h a b) ] }
+  past_more n p h = record { none = λ m a b l. elim (below_or_last n m l) [ inl k ↦ p.none m a b k | inr e ↦ subst (λ i. Reason i a b → ⊥) (sym e) (h a b) ] }
 
   -- the first reason: at the first stage that has one, with the least numbers
   pub record IsFirstReason (n a b : ℕ) : Type 0 where

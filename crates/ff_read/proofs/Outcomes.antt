@@ -3,7 +3,7 @@ use Rattle.std.proofs.Common.{◌≡◌, ◌∙◌, ◌⊎◌, inl, inr, ℕ, ze
 use Rattle.std.proofs.lemmas.List.{take_all}
 use Rattle.std.proofs.lemmas.Bool.{cases_lt}
 use Rattle.std.proofs.lemmas.Option.{none-some, same_Some}
-use Rattle.ff_basics.proofs.Numbers.{last_or, less_or}
+use Rattle.ff_basics.proofs.Numbers.{below_or_last, less_or}
 use Rattle.serde_json.specs.Data.{Data}
 use Rattle.ff_whole.specs.declared.points.Pt.{Pt}
 use Rattle.ff_whole.specs.Points.{IsNear}
@@ -254,7 +254,7 @@ near_so_far : (ps : List Pt) (n : ℕ) → n ≤ length ps → ((v : ℕ) → Is
 near_so_far ps zero l far refute = refute (λ v m. absurd (omega (arith, m)))
 near_so_far ps (suc n) l far refute =
     near_so_far ps n (omega (arith, l)) far
-    (λ near. far n (record { within = omega (arith, l); far = λ here. refute (λ v m. near_more ps n near here v (last_or v n m)); before = near }))
+    (λ near. far n (record { within = omega (arith, l); far = λ here. refute (λ v m. near_more ps n near here v (below_or_last n v m)); before = near }))
 
 edges_so_far : (n : ℕ) (ds : List Data) (j : ℕ) → j ≤ length ds → ((e : ℕ) → IsFirstBadEdge n ds e → ⊥) → ((xs : List EdgeEnds) → all_of ends_of (take j ds) ≡ Some xs → AreEdges n xs → ⊥) → ⊥
 edges_so_far n ds zero l bad refute = refute [] refl (record { joins = λ e m. absurd (omega (arith, m)); once = λ k e o m. absurd (omega (arith, m)) })

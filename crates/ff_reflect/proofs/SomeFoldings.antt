@@ -7,7 +7,7 @@ use Rattle.std.proofs.lemmas.List.Elements.{Contains-get_or}
 use Rattle.std.proofs.Math.Nat.{le_of_dvd, mul-div_cancel'}
 use Rattle.std.specs.List.{Contains}
 use Rattle.ff_basics.proofs.Lists.{place_of_member}
-use Rattle.ff_basics.proofs.Numbers.{last_or}
+use Rattle.ff_basics.proofs.Numbers.{below_or_last}
 use Prim.Native.Nat.{◌∣◌}
 use Rattle.ff_whole.specs.declared.points.Pt.{Pt}
 use Rattle.ff_whole.specs.declared.places.Place.{Place}
@@ -61,7 +61,7 @@ choose P (suc n) h = more (choose P n (λ k l. h k (omega (arith, l)))) (h n (om
     list ++ a ∷ [],
     record {
       as_many = (let m = length_push list a in let o = c.as_many in omega arith);
-      each = λ k l. let m = c.as_many in elim (last_or k n l) [
+      each = λ k l. let m = c.as_many in elim (below_or_last n k l) [
         | inl o ↦ subst (P k) (sym (get_or_append_left list (a ∷ []) origin k (omega (arith, o, m)))) (c.each k o)
         | inr e ↦ subst (P k) (sym (get_or_push list a origin k (m ∙ sym e))) (subst (λ j. P j a) (sym e) p)
       ];
@@ -92,11 +92,11 @@ module _ (paper : Paper) (none : (r : Refusal) → RefusesFolding paper.points p
     goes (suc n) =
         let before = goes n in
         record {
-          none_torn = λ j q l t. elim (last_or j n l) [
+          none_torn = λ j q l t. elim (below_or_last n j l) [
             | inl m ↦ before.none_torn j q m t
             | inr e ↦ none (Inconsistent q.1) (order, up, carried, placed, (n, q, before, subst (λ i. IsTornAt all carried i q) e t, refl))
           ];
-          none_far = λ j q l t. elim (last_or j n l) [
+          none_far = λ j q l t. elim (below_or_last n j l) [
             | inl m ↦ before.none_far j q m t
             | inr e ↦ none (Oversized q.1) (order, up, carried, placed, (n, q, before, subst (λ i. IsTooFarAt all carried i q) e t, refl))
           ];
@@ -111,7 +111,7 @@ module _ (paper : Paper) (none : (r : Refusal) → RefusesFolding paper.points p
     some_scale zero k = k 1 (omega arith, λ j p l. absurd (omega (arith, l)))
     some_scale (suc n) k = some_scale n (λ scale f. k scale (
       f.0,
-      λ j p l home. elim (last_or j n l) [
+      λ j p l home. elim (below_or_last n j l) [
         | inl m ↦ f.1 j p m home
         | inr e ↦ absurd (not_home p (subst (λ i. IsHome all i p) e home))
       ],
@@ -125,7 +125,7 @@ module _ (paper : Paper) (none : (r : Refusal) → RefusesFolding paper.points p
     least_scale k = some_scale (length all) (λ scale. below (suc scale) scale (omega arith)) where
       below : (n s : ℕ) → s < n → Fits (length all) s → ⊥
       below zero s l = absurd (omega (arith, l))
-      below (suc n) s l = elim (last_or s n l) [ inl m ↦ below n s m | inr e ↦ λ f. k s f (λ t m. below n t (omega (arith, m, e))) ]
+      below (suc n) s l = elim (below_or_last n s l) [ inl m ↦ below n s m | inr e ↦ λ f. k s f (λ t m. below n t (omega (arith, m, e))) ]
 
     -- ---- the points at the least scale
 
@@ -250,7 +250,7 @@ module _ (paper : Paper) (none : (r : Refusal) → RefusesFolding paper.points p
     none_broken tree met up t f i m = below (suc i) i m (omega arith) where
       below : (n i : ℕ) (m : Meeting) → i < n → slice_get met i ≡ Some m → Breaks paper.marks up m → ⊥
       below zero i m l = absurd (omega (arith, l))
-      below (suc n) i m l = elim (last_or i n l) [
+      below (suc n) i m l = elim (below_or_last n i l) [
         | inl k ↦ below n i m k
         | inr e ↦ λ there b. none (Parity m.edge) (
           order_along tree,

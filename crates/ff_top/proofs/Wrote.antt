@@ -2,14 +2,14 @@
 use Rattle.std.proofs.Common.{◌≡◌, ◌∙◌, ◌⊎◌, inl, inr, ℕ, zero, suc, ◌+◌, ◌<◌, List, [], ◌++◌, length, length-append, take, Option, None, Some, Result, Ok, Err, OnErr, ap, sym, subst, append_assoc, arith}
 use Rattle.std.proofs.lemmas.List.{append-nil, take-append-le}
 use Rattle.std.proofs.Math.Seq.{take-append_seam, take-append-add}
-use Rattle.ff_basics.proofs.Numbers.{last_or}
+use Rattle.ff_basics.proofs.Numbers.{below_or_last}
 use Rattle.ff_report.specs.Heads.{lines_of}
 use Rattle.ff_top.specs.Transfer.{Got, GotFront, GotPart}
 
 -- what comes before a piece, the piece, and what comes after it
 pub split : (line : ℕ → List ℕ) (k n : ℕ) → k < n → (rest : List ℕ) × (lines_of line n ≡ lines_of line k ++ (line k ++ rest))
 split line k zero l = absurd (omega (arith, l))
-split line k (suc m) l = elim (last_or k m l) [
+split line k (suc m) l = elim (below_or_last m k l) [
   | inl less ↦ let more = split line k m less in
       (more.0 ++ line m, ap (λ t. t ++ line m) more.1 ∙ append_assoc (lines_of line k) (line k ++ more.0) (line m) ∙ ap (λ t. lines_of line k ++ t) (append_assoc (line k) more.0 (line m)))
   | inr same ↦ ([], subst (λ j. lines_of line m ++ line m ≡ lines_of line j ++ (line j ++ [])) (sym same) (ap (λ t. lines_of line m ++ t) (sym (append-nil (line m)))))
