@@ -1,5 +1,5 @@
 -- A call, in the tree.
-use Rattle.std.proofs.Common.{◌≡◌, ℕ, zero, suc, ◌+◌, ◌<◌, ◌≤◌, true, false, List, [], ◌∷◌, ◌++◌, length, drop, take, refl, sym, ap, ◌∙◌, subst, arith, Option, Some, None}
+use Rattle.std.proofs.Common.{true≢false, not, ◌≡◌, ℕ, zero, suc, ◌+◌, ◌<◌, ◌≤◌, Bool, true, false, List, [], ◌∷◌, ◌++◌, length, drop, take, refl, sym, ap, ◌∙◌, subst, arith, Option, Some, None}
 use Rattle.std.specs.Option.{is_some}
 use Rattle.std.proofs.Math.Nat.{mul-zero}
 use Rattle.std.proofs.lemmas.List.{append_assoc, append-nil, length-append, length-replicate, drop_at, take_at, drop-drop, length-take-le, take-append-drop}
@@ -13,7 +13,7 @@ use Rattle.ff_solver.specs.declared.state.Search.{Search}
 use Rattle.ff_solver.specs.declared.state.Advance.{Advance}
 use Rattle.ff_solver.specs.declared.state.Advance.TheVariants.{Found, Finished, Spent}
 use Rattle.ff_solver.specs.Paths.{AreLeft, AreNext, Nodes}
-use Rattle.ff_solver.specs.Searches.{IsSearch, IsSameSearch, AreLeftIn, IsRun, Advances, IsIn, StandsAt, IsAdvance, GoesOn, AnswersIn, idle, solution_in}
+use Rattle.ff_solver.specs.Searches.{IsSearch, IsSameSearch, AreLeftIn, IsRun, Advances, IsIn, StandsAt, IsAdvance, GoesOn, AnswersIn, TellsFinished, idle, solution_in}
 use Rattle.ff_solver.proofs.Running.{carried, visits_some, times_more}
 use Rattle.ff_solver.proofs.Unique.{same_tree}
 
@@ -165,3 +165,27 @@ no_next (Some head) e = cc
 pub has_next : (o : Option ℕ) → is_some o ≡ true → o ≡ None → ⊥
 has_next None e n = cc
 has_next (Some head) e n = cc
+
+-- whether a search has a next node is whether nodes are left
+pub tells_finished : (s : Search) (finished : Bool) → (finished ≡ true → s.path.next ≡ None) × (finished ≡ false → s.path.next ≡ None → ⊥)
+    → TellsFinished s finished
+tells_finished s finished tells cons value at tree is = (
+  λ e. subst (λ t. drop s.visited (visits t) ≡ []) same
+      (subst (λ o. AreLeft s.system.constraints at.is_in.own_value s.places s.path o (drop s.visited (visits at.tree))) (tells.0 e) at.is_in.left),
+  λ ended. by finished refl ended,
+)
+  where
+    same : at.tree ≡ tree
+    same = same_tree cons (λ v x. value v ≡ Some x) s.part.vars [] at.tree tree at.is_in.is_tree is
+
+    by : (b : Bool) → finished ≡ b → drop s.visited (visits tree) ≡ [] → finished ≡ true
+    by true e ended = e
+    by false e ended =
+        let head = some_next s.path.next (tells.1 e) in
+        let next : AreNext s.system.constraints at.is_in.own_value s.places s.path (drop s.visited (visits at.tree)) =
+        subst (λ o. AreLeft s.system.constraints at.is_in.own_value s.places s.path o (drop s.visited (visits at.tree))) head.1 at.is_in.left in
+        absurd (visits_some next.tree next.later (sym next.are ∙ subst (λ t. drop s.visited (visits t) ≡ []) (sym same) ended))
+
+pub none_is : (o : Option ℕ) (b : Bool) → is_some o ≡ not b → (b ≡ true → o ≡ None) × (b ≡ false → o ≡ None → ⊥)
+none_is None b e = (λ t. refl, λ f n. true≢false (sym (e ∙ ap not f)))
+none_is (Some head) b e = (λ t. absurd (true≢false (e ∙ ap not t)), λ f n. cc)

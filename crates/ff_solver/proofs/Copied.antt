@@ -7,7 +7,7 @@ use Rattle.ff_tables.specs.declared.terms.Constraint.{Constraint}
 use Rattle.ff_tables.specs.Orders.{term_at, turn, row_at}
 use Rattle.ff_tables.specs.Rows.{HasRow}
 use Rattle.ff_tables.specs.Systems.{AreFit}
-use Rattle.ff_tables.specs.Forces.{Forces, Knows, Only}
+use Rattle.ff_tables.specs.Forces.{Agrees, Forces, Knows, NoneAgrees, Only}
 use Rattle.ff_tables.proofs.Agreeing.{forces_more}
 use Rattle.ff_propagate.specs.Parts.{IsPart}
 use Rattle.ff_propagate.specs.Trees.{With, AtNode, IsClashNode}
@@ -25,30 +25,43 @@ differ : {A : Type 0} {o : Option Order} → o ≡ Some Below → o ≡ Some Abo
 differ p q = cc
 
 -- two constraints that differ in the names of their variables alone
-record IsLike (a b : Constraint) : Type 0 where
-  kind : b.kind ≡ a.kind
-  as_many : length b.terms ≡ length a.terms
-  flipped : (j : ℕ) → j < length a.terms → (term_at b.terms j).flipped ≡ (term_at a.terms j).flipped
+pub record IsLike (a b : Constraint) : Type 0 where
+  pub kind : b.kind ≡ a.kind
+  pub as_many : length b.terms ≡ length a.terms
+  pub flipped : (j : ℕ) → j < length a.terms → (term_at b.terms j).flipped ≡ (term_at a.terms j).flipped
 
 like_copy : (part names : List ℕ) (from con : Constraint) → IsCopied part names from con → IsLike from con
 like_copy part names from con is = record { kind = is.kind; as_many = is.as_many; flipped = λ j l. (is.each j l).flipped }
 
-like_from : (part names : List ℕ) (from con : Constraint) → IsCopied part names from con → IsLike con from
+pub like_from : (part names : List ℕ) (from con : Constraint) → IsCopied part names from con → IsLike con from
 like_from part names from con is = record {
   kind = sym is.kind;
   as_many = sym is.as_many;
   flipped = λ j l. sym (is.each j (omega (arith, l, is.as_many))).flipped;
 }
 
+-- a row that agrees with as much or more at the other agrees at the one
+agrees_like : (a b : Constraint) → IsLike a b → (less more : ℕ → Order → Type 0)
+    → ((j : ℕ) (t : Order) → j < length a.terms → less (term_at a.terms j).var t → more (term_at b.terms j).var t)
+    → (row : List Order) → Agrees b.terms more row → Agrees a.terms less row
+agrees_like a b like less more up row agrees j t l q = agrees j t (omega (arith, l, like.as_many))
+    (subst (λ f. more (term_at b.terms j).var (turn f t)) (sym (like.flipped j l)) (up j (turn (term_at a.terms j).flipped t) l q))
+
+-- where no row of the one agrees, none of the other agrees with as much or more
+pub none_like : (a b : Constraint) → IsLike a b → (less more : ℕ → Order → Type 0)
+    → ((j : ℕ) (t : Order) → j < length a.terms → less (term_at a.terms j).var t → more (term_at b.terms j).var t)
+    → NoneAgrees a.kind a.terms less → NoneAgrees b.kind b.terms more
+none_like a b like less more up none k row at agrees = none k row (subst (λ kind. HasRow kind k row) like.kind at)
+    (agrees_like a b like less more up row agrees)
+
 -- what the one forces at a place, the other forces there from as much or more
-only_like : (a b : Constraint) → IsLike a b → (less more : ℕ → Order → Type 0)
+pub only_like : (a b : Constraint) → IsLike a b → (less more : ℕ → Order → Type 0)
     → ((j : ℕ) (t : Order) → j < length a.terms → less (term_at a.terms j).var t → more (term_at b.terms j).var t)
     → (p : ℕ) (s : Order) → p < length a.terms → Only a.kind a.terms less p (turn (term_at a.terms p).flipped s)
     → Only b.kind b.terms more p (turn (term_at b.terms p).flipped s)
 only_like a b like less more up p s lp only k row at agrees =
     subst (λ f. row_at row p ≡ turn f s) (sym (like.flipped p lp))
-    (only k row (subst (λ kind. HasRow kind k row) like.kind at) (λ j t l q. agrees j t (omega (arith, l, like.as_many))
-    (subst (λ f. more (term_at b.terms j).var (turn f t)) (sym (like.flipped j l)) (up j (turn (term_at a.terms j).flipped t) l q))))
+    (only k row (subst (λ kind. HasRow kind k row) like.kind at) (agrees_like a b like less more up row agrees))
 
 -- what was tried, by names and by own numbers
 pub record AreSame (part : List ℕ) (tried own_tried : List (ℕ × Order)) : Type 0 where

@@ -13,3 +13,9 @@ mod Copied
 mod OwnTrees
 mod Advancing
 mod Started
+mod Renaming
+mod Noting
+mod Fewer
+mod Unsolved
+mod Going
+mod Rooted

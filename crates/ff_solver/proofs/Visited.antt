@@ -16,7 +16,7 @@ use Rattle.ff_solver.specs.Paths.{AreSilent, IsAtNode, AreMarks, IsPath, AreBran
 use Rattle.ff_solver.proofs.Branching.{AreAlike, marks_alike, branches_alike, marks_up}
 use Rattle.ff_solver.proofs.Inverting.{dead_clash, clash_tree, full_tree, fork_tree}
 
-grows_alike : (cons : List Constraint) (old new : Trail) → Grows cons old new
+pub grows_alike : (cons : List Constraint) (old new : Trail) → Grows cons old new
     → AreAlike old new (length old.steps.items)
 grows_alike cons old new x = record { cuts = λ m l. x.same m (omega (arith, l)); vars = λ m l. ap (λ (z : Step). z.var) (x.front m l) }
 

@@ -1,5 +1,9 @@
 pub mod Paths
 pub mod Moves
 pub mod Copies
+pub mod Roots
+pub mod Most
+pub mod Steps
+pub mod Refuting
 pub mod Searches
 pub mod SolutionLaws

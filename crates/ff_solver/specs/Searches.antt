@@ -1,5 +1,5 @@
 -- What a search tells of its decision tree.
-use Rattle.std.specs.Prelude.{◌≡◌, ℕ, ◌+◌, ◌*◌, ◌<◌, ◌≤◌, ◌^◌, ◌++◌, List, [], ◌∷◌, length, drop, take, replicate, Option, Some, None}
+use Rattle.std.specs.Prelude.{◌≡◌, ◌↔◌, ℕ, ◌+◌, ◌*◌, ◌<◌, ◌≤◌, ◌^◌, ◌++◌, Bool, IsTrue, List, [], ◌∷◌, length, drop, take, replicate, Option, Some, None}
 use Rattle.ff_tables.specs.declared.orders.Order.{Order}
 use Rattle.ff_tables.specs.declared.terms.Constraint.{Constraint}
 use Rattle.ff_propagate.specs.Trees.{Tree, IsTree, visits, found}
@@ -145,3 +145,8 @@ AnswersIn cons old turns new answer = (value : ℕ → Option Order) → StandsA
 pub record Starts (part : List ℕ) (s : Search) : Type 0 where
   pub part_is : s.part.vars ≡ part
   pub unvisited : s.visited ≡ 0
+
+-- Wherever the search stands, this is whether all nodes of the tree are visited.
+abbrev pub TellsFinished : Search → Bool → Type 0
+TellsFinished s finished = (cons : List Constraint) (value : ℕ → Option Order) → StandsAt cons value s → (tree : Tree)
+    → IsTree cons value s.part.vars tree → IsTrue finished ↔ (drop s.visited (visits tree) ≡ [])

@@ -3,7 +3,7 @@ ghost use Rattle.std.specs.Prelude.{◌≡◌, ℕ, ◌+◌, ◌*◌, ◌<◌, �
 ghost use Rattle.ff_tables.specs.declared.orders.Order.{Order as OrderSpec};
 ghost use Rattle.ff_propagate.specs.Trails.{known, IsTrail};
 ghost use Rattle.ff_solver.specs.Paths.{AreDecided, AreValues, AreWithin, AreLeft, AreNext, ArePending, IsPassed, IsSolved, Nodes};
-ghost use Rattle.ff_solver.specs.Searches.{IsSearch, IsSameSearch, IsAtSolution, AreLeftIn, IsRun, GoesOn, AnswersIn};
+ghost use Rattle.ff_solver.specs.Searches.{IsSearch, IsSameSearch, IsAtSolution, AreLeftIn, IsRun, GoesOn, AnswersIn, TellsFinished};
 
 use crate::state::{Advance, Search};
 use ff_propagate::Trail;
@@ -127,5 +127,13 @@ impl Search {
         ensures { result ≡ length self.now.part.vars * self.now.visited }
     {
         self.cost() * self.visited
+    }
+
+    /// Whether all nodes of the tree are visited. It takes no memory.
+    pub fn is_finished(&self) -> bool
+        requires search { IsSearch self.now }
+        ensures { TellsFinished self.now result }
+    {
+        self.path.next.is_none()
     }
 }

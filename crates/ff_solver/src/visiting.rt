@@ -9,8 +9,8 @@ use crate::path::Path;
 use ff_propagate::{Trail, Uses};
 use ff_tables::{Known, System};
 
-// The first variable of the part that has no value.
-fn first_open(part: &[u32], trail: &Trail, vars: u32) -> Option<u32>
+/// The first variable of the part that has no value.
+pub(crate) fn first_open(part: &[u32], trail: &Trail, vars: u32) -> Option<u32>
     requires within { AreWithin vars part.now }
     requires wide { length trail.now.values.list.items ≡ vars }
     ensures { FirstOpen part.now trail.now result }

@@ -1,0 +1,1 @@
+use Rattle.ff_solver.proofs.refuting.Recorder.note_all.Goals as goal
