@@ -19,7 +19,7 @@ mod PlainRows
 pub mod RowStackings
 pub mod PairSets
 pub mod CaseRows
-mod Creases
+pub mod Creases
 pub mod Truth
 pub mod SortedLists
 pub mod Alike

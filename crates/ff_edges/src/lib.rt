@@ -21,3 +21,4 @@ pub use beside::{ends, face_left};
 pub use crossed::edge_faces;
 pub use edge_face::EdgeFace;
 pub use edge_pair::EdgePair;
+pub use shared::shared_segment;

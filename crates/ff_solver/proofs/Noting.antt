@@ -3,6 +3,7 @@ use Rattle.std.proofs.Common.{◌≡◌, ℕ, suc, ◌+◌, ◌<◌, ◌≤◌, 
 use Rattle.std.proofs.lemmas.Bool.{cases_eq, ne_eqb}
 use Rattle.std.proofs.lemmas.Option.{slice_get_within}
 use Rattle.std.proofs.lemmas.List.{append_assoc, drop_more}
+use Rattle.ff_basics.proofs.Options.{some_same}
 use Rattle.ff_tables.specs.declared.orders.Order.{Order}
 use Rattle.ff_tables.specs.declared.orders.Order.TheVariants.{Below, Above}
 use Rattle.ff_tables.specs.declared.terms.Constraint.{Constraint}
@@ -21,9 +22,6 @@ use Rattle.ff_solver.proofs.Listing.{tried_now, tried_before}
 use Rattle.ff_solver.proofs.Branching.{AreAlike, below_bound, cut_now, known_set, known_other, last_var, longer, set_alike, taken_alike, reverse_push, middle, marks_alike}
 use Rattle.ff_solver.proofs.Visited.{grows_alike}
 use Rattle.ff_solver.proofs.Renaming.{forced_there, dead_there}
-
-some_same : {s t : Order} → Some s ≡ Some t → s ≡ t
-some_same e = cc
 
 -- what came to hold since changes nothing of what was known
 known_more : (value : ℕ → Option Order) (held : List (ℕ × Order)) (v : ℕ) (s : Order) (u : ℕ) (t : Order)

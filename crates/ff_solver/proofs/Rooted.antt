@@ -1,6 +1,7 @@
 -- A refutation begins at the root.
 use Rattle.std.proofs.Common.{◌≡◌, ℕ, ◌<◌, inl, inr, List, [], ◌++◌, length, reverse, slice_index, refl, sym, ap, ◌∙◌, subst, arith, Option, Some, None}
 use Rattle.std.proofs.lemmas.Bool.{cases_lt}
+use Rattle.ff_basics.proofs.Options.{some_none}
 use Rattle.ff_tables.specs.declared.orders.Order.{Order}
 use Rattle.ff_tables.specs.declared.terms.Constraint.{Constraint}
 use Rattle.ff_tables.specs.declared.systems.System.{System}
@@ -21,9 +22,6 @@ use Rattle.ff_solver.specs.Steps.{knows}
 use Rattle.ff_solver.specs.Refuting.{IsNaming, ArePlaces, Told, AreStacked, IsDown, IsAt, HasNoSolution}
 use Rattle.ff_solver.proofs.Branching.{cut_now}
 use Rattle.ff_solver.proofs.Started.{IsBegun}
-
-some_none : {A : Type 0} {o : Option Order} {s : Order} → o ≡ Some s → o ≡ None → A
-some_none p q = cc
 
 pub root_unsolved : (cons : List Constraint) (fs : List (Option Fact)) (part touching names : List ℕ) (system : System) (places now : List ℕ)
     (uses : Uses) (path : Path) → (root : IsRoot cons fs part touching names system places uses path) → now ≡ places

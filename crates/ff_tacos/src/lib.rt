@@ -8,4 +8,5 @@ mod listing;
 mod mixed;
 mod passes;
 
+pub use beside::{beside as faces_beside, is_flat, is_folded, matching};
 pub use listing::tacos;
