@@ -1,5 +1,5 @@
 -- What holds while the givens are set.
--- For the proofs of this crate alone.
+
 use Rattle.std.specs.Prelude.{◌≡◌, ◌≢◌, ℕ, ◌<◌, List, slice_get, Option, Some, None}
 use Rattle.ff_tables.specs.declared.givens.Given.{Given}
 use Rattle.ff_propagate.specs.declared.facts.Fact.{Fact}

@@ -14,3 +14,4 @@ pub mod Giving
 pub mod Boards
 pub mod Trails
 pub mod Telling
+pub mod Words

@@ -54,7 +54,7 @@ fn give_rest(facts: &mut [Option<Fact>], givens: &[Given], n: u32)
 }
 
 /// Sets all givens. The first that contradicts an earlier one, with the first that it contradicts.
-pub(crate) fn give(facts: &mut [Option<Fact>], givens: &[Given]) -> Option<ClashAt>
+pub fn give(facts: &mut [Option<Fact>], givens: &[Given]) -> Option<ClashAt>
     requires fit { GivensFit (length facts.old) givens.now }
     requires few { length givens.now < 2 ^ 32 }
     requires gives { HasGivens givens.now 0 facts.old }

@@ -11,6 +11,7 @@ mod parts;
 mod telling;
 mod trail;
 mod uses;
+mod words;
 
 pub use closing::{close, givens_fit};
 pub use facts::{ClashAt, Closed, Fact, Facts, Reason};
@@ -21,3 +22,4 @@ pub use laws::{
 pub use parts::Part;
 pub use trail::{Step, Trail};
 pub use uses::Uses;
+pub use words::{Held, read_word, write_word};

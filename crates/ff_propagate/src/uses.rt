@@ -118,4 +118,13 @@ impl Uses {
         let _ = (vars, constraints.len());
         self.lists[var as usize].as_slice()
     }
+
+    /// The constraints that are listed for the variable, none past the last. Nothing is promised of them.
+    #[inline(always)]
+    pub fn listed(&self, var: u32) -> &[u32] {
+        match self.lists.get(var as usize) {
+            Some(list) => list.as_slice(),
+            None => &[],
+        }
+    }
 }
