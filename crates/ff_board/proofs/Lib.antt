@@ -1,0 +1,12 @@
+mod Steps
+mod Marks
+mod Got
+pub mod Counts
+pub mod Sweeps
+mod Examined
+mod Rounds
+mod Closure
+mod Readings
+mod Collected
+mod Openings
+pub mod Going
