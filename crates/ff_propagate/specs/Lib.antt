@@ -15,3 +15,4 @@ pub mod Boards
 pub mod Trails
 pub mod Telling
 pub mod Words
+pub mod Agreeing
