@@ -1,6 +1,8 @@
 mod Steps
 mod Marks
 mod Got
+mod Dues
+mod Tops
 pub mod Counts
 pub mod Sweeps
 mod Examined

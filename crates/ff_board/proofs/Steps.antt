@@ -25,7 +25,7 @@ use Rattle.ff_board.specs.declared.opening.Opening.{Opening}
 use Rattle.ff_board.specs.declared.seats.View.{View}
 use Rattle.ff_propagate.specs.Words.{held, held_of}
 use Rattle.ff_board.specs.Facts.{vars_in, cons_in, AllIn, Reaches, Lower, SeenAt, SeenBelow, Marked, is_marked, ForcedOk, ReasonOk, FactOk, Grows, AllSeenBy, AllSeen, Sound}
-use Rattle.ff_board.specs.Rule.{words_set, Opens, Sees, Stand, Kept, starting, looked, Backed, IsLearned, Looked, told, Offered}
+use Rattle.ff_board.specs.Rule.{words_set, Opens, Sees, Stand, Kept, starting, looked, Backed, AgreeAt, IsLearned, Looked, told, Offered}
 use Rattle.ff_propagate.proofs.Packs.{held_zero, some_of}
 
 pub words_most : (ws : List ℕ) → words_set ws ≤ length ws
@@ -161,6 +161,8 @@ step_keeps o s id me v n' r inside at stand up =
         learned = record {
           inside = λ u h p. subst (λ (z : Opening). u < vars_in z) (sym sees.0) (stand.facts u h (new u h p)).0;
           closure = subst (λ (z : Opening). AllIn z seen') (sym sees.0) (λ u h p. stand.closure u h (new u h p));
+          agrees = subst (λ (z : Opening). AgreeAt z seen') (sym sees.0) (λ u h f p q. let t = stand.opened u f q in
+              ap (λ (x : Held). x.fact) (same_held W u h _ (new u h p) t.1));
           low = λ u h p. let a = stand.low u h (new u h p) in
               let b = words_within (vars_in o) W (λ x g q. (stand.facts x g q).0) in
               let e = ap (λ (z : Opening). top_level z.facts + vars_in z) sees.0 in omega arith;
@@ -211,6 +213,7 @@ starts_learned o =
     record {
       inside = λ v h e. absurd (no v h e);
       closure = λ v h e. absurd (no v h e);
+      agrees = λ v h f e. absurd (no v h e);
       low = λ v h e. absurd (no v h e);
     }
 

@@ -1,5 +1,5 @@
 -- When a pass, and a sweep, has ended.
-use Rattle.std.proofs.Common.{◌≡◌, ℕ, ◌+◌, ◌<◌, ◌≤◌, ◌⊎◌, Bool, true, false, List, length, slice_get, sym, refl, ap, ◌∙◌, subst, ⊎_elim, inl, inr, arith, Option, Some, None}
+use Rattle.std.proofs.Common.{◌≡◌, ℕ, ◌+◌, ◌<◌, ◌≤◌, ◌⊎◌, Bool, true, false, List, length, slice_get, get_or, sym, refl, ap, ◌∙◌, subst, ⊎_elim, inl, inr, arith, Option, Some, None}
 use Rattle.std.proofs.lemmas.Option.{slice_get_within}
 use mathlib.Core.Logic.{dite}
 use native.Mathlib.Decide.{ℕ_discrete}
@@ -15,12 +15,15 @@ use Rattle.ff_propagate.specs.declared.words.Held.{Held}
 use Rattle.ff_board.specs.declared.opening.Opening.{Opening}
 use Rattle.ff_propagate.specs.Words.{held}
 use Rattle.ff_board.specs.Facts.{vars_in, cons_in, SeenAt, Grows}
-use Rattle.ff_board.specs.Rule.{set_below}
-use Rattle.ff_board.specs.Swept.{Base, RestsBetween, Quiets, Closes}
+use Rattle.ff_board.specs.Rule.{set_below, Opens}
+use Rattle.ff_board.specs.Swept.{Base, RestsBetween, Quiets, QuietsOf, Closes}
 use Rattle.ff_board.proofs.Counts.{same_below}
 
 pub seen_grows : (ws xs : List ℕ) (v : ℕ) (s : Order) → Grows ws xs → SeenAt ws v s → SeenAt xs v s
 seen_grows ws xs v s g h = (h.0, g v h.0 h.1, h.2)
+
+pub opens_grows : (o : Opening) (ws xs : List ℕ) → Grows ws xs → Opens o ws → Opens o xs
+opens_grows o ws xs g opened v f at = let t = opened v f at in (t.0, g v _ t.1)
 
 pub base_grows : (o : Opening) (ws xs : List ℕ) (v : ℕ) (s : Order) → Grows ws xs → Base o ws v s → Base o xs v s
 base_grows o ws xs v s g b = ⊎_elim (λ h. inl (seen_grows ws xs v s g h)) inr b
@@ -33,11 +36,12 @@ widens o con first old new last a z r = record {
   rests = r.rests;
 }
 
--- one constraint more
-pub quiets_on : (o : Opening) (n : ℕ) (first old new : List ℕ) → Grows first old → Grows old new → Quiets o n first old → ((con : Constraint) → slice_get (cons_in o) n ≡ Some con → RestsBetween o con old new) → Quiets o (n + 1) first new
-quiets_on o n first old new a z all r c d l at = dite (ℕ_discrete c n)
-    (λ e. widens o d first old new new a (λ v h p. p) (r d (ap (slice_get (cons_in o)) (sym e) ∙ at)))
-    (λ e. widens o d first first old new (λ v h p. p) z (all c d (omega arith) at))
+-- one constraint of the list more
+pub quiets_on : (o : Opening) (list : List ℕ) (n : ℕ) (first old new : List ℕ) → Grows first old → Grows old new → QuietsOf o list n first old
+    → ((con : Constraint) → slice_get (cons_in o) (get_or list n 0) ≡ Some con → RestsBetween o con old new) → QuietsOf o list (n + 1) first new
+quiets_on o list n first old new a z all r k d l at = dite (ℕ_discrete k n)
+    (λ e. widens o d first old new new a (λ v h p. p) (r d (ap (λ (j : ℕ). slice_get (cons_in o) (get_or list j 0)) (sym e) ∙ at)))
+    (λ e. widens o d first first old new (λ v h p. p) z (all k d (omega arith) at))
 
 -- what a constraint that rests forces from what was known before is seen after
 pub rested : (o : Opening) (con : Constraint) (old new : List ℕ) → RestsBetween o con old new → (v : ℕ) (s : Order) → Forces con.kind con.terms (Base o old) v s → SeenAt new v s

@@ -1,4 +1,5 @@
 pub mod Standing
+pub mod Due
 pub mod Facts
 pub mod Rule
 pub mod Views

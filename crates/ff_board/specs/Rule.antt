@@ -68,11 +68,16 @@ Backed d v n = (u : ℕ) (h : Held) → held d.seen u ≡ Some h → (c : ℕ) �
     → (j : ℕ) → j < length con.terms → is_marked h.marks j ≡ true → (term_at con.terms j).var ≡ v
     → (g : Held) × (held_of n ≡ Some g) × (g.fact.level < h.fact.level)
 
--- what was seen: facts of the board's variables, in the closure of its givens, of levels that are at most the
--- number of variables above the greatest opening level
+-- where an opening fact was seen, it is that fact
+abbrev pub AgreeAt : Opening → List ℕ → Type 0
+AgreeAt o ws = (v : ℕ) (h : Held) (f : Fact) → held ws v ≡ Some h → fact_at o.facts v ≡ Some f → h.fact ≡ f
+
+-- what was seen: facts of the board's variables, in the closure of its givens, the opening facts among them, of
+-- levels that are at most the number of variables above the greatest opening level
 pub record IsLearned (d : View) : Type 0 where
   pub inside : (v : ℕ) (h : Held) → held d.seen v ≡ Some h → v < vars_in d.opening
   pub closure : AllIn d.opening d.seen
+  pub agrees : AgreeAt d.opening d.seen
   pub low : (v : ℕ) (h : Held) → held d.seen v ≡ Some h
       → h.fact.level ≤ top_level d.opening.facts + vars_in d.opening
 

@@ -12,6 +12,11 @@ top_level [] = 0
 top_level (None ∷ fs) = top_level fs
 top_level (Some h ∷ fs) = max h.level (top_level fs)
 
+-- the greater of the level of a fact, if there is one, and k
+abbrev pub top_with : Option Fact → ℕ → ℕ
+top_with None k = k
+top_with (Some h) k = max h.level k
+
 -- how many variables have a fact
 abbrev pub set_count : List (Option Fact) → ℕ
 set_count [] = 0

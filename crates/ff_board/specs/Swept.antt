@@ -1,5 +1,5 @@
 -- What examining a constraint tells, and what was seen when a sweep has ended.
-use Rattle.std.specs.Prelude.{◌≡◌, ℕ, ◌+◌, ◌<◌, ◌⊎◌, List, length, slice_get, Option, Some, None}
+use Rattle.std.specs.Prelude.{◌≡◌, ℕ, ◌+◌, ◌<◌, ◌⊎◌, List, length, slice_get, slice_index, Option, Some, None}
 use Rattle.ff_tables.specs.declared.orders.Order.{Order}
 use Rattle.ff_tables.specs.declared.terms.Constraint.{Constraint}
 use Rattle.ff_tables.specs.declared.known.Forced.TheVariants.{Nothing}
@@ -42,6 +42,11 @@ Examines o c old new Dead = IsDeadSeen o c new
 -- each of the first n constraints rests
 abbrev pub Quiets : Opening → ℕ → List ℕ → List ℕ → Type 0
 Quiets o n old new = (c : ℕ) (con : Constraint) → c < n → slice_get (cons_in o) c ≡ Some con
+    → RestsBetween o con old new
+
+-- each constraint that is among the first n of a list rests
+abbrev pub QuietsOf : Opening → List ℕ → ℕ → List ℕ → List ℕ → Type 0
+QuietsOf o list n old new = (k : ℕ) (con : Constraint) → k < n → slice_get (cons_in o) (slice_index list k) ≡ Some con
     → RestsBetween o con old new
 
 -- what was seen is closed: no constraint is dead, and each value that one forces was seen

@@ -1,6 +1,7 @@
 //! The board.
 ghost use Rattle.std.specs.Prelude.{◌≡◌, ◌+◌, ◌<◌, ◌≤◌, Some, None, length, slice_get};
 ghost use Rattle.ff_propagate.specs.Words.{held_of};
+ghost use Rattle.ff_board.specs.Due.{AreDue};
 ghost use Rattle.ff_board.specs.Facts.{vars_in, cons_in};
 ghost use Rattle.ff_board.specs.Answer.{fact_of, IsLook};
 ghost use Rattle.ff_board.specs.Rule.{Looked};
@@ -22,18 +23,22 @@ pub struct EpochBoard {
     pub(crate) opening: Opening,
     /// For each variable the constraints that have it. Nothing is promised of them.
     pub(crate) uses: Arc<Uses>,
+    /// The constraints that the opening facts don't settle.
+    pub(crate) due: Vec<u32>,
 }
 
 impl Model for EpochBoard {
     ghost use Rattle.std.specs.Prelude.{◌≡◌, ◌+◌};
-    ghost use Rattle.ff_board.specs.Facts.{vars_in};
+    ghost use Rattle.std.specs.Prelude.{length};
+    ghost use Rattle.ff_board.specs.Due.{AreDue};
+    ghost use Rattle.ff_board.specs.Facts.{vars_in, cons_in};
     ghost use Rattle.ff_board.specs.Views.{BoardView};
 
     ghost Value = { BoardView };
 
     ghost view = { λ b. record { table = b.table.shared.table_id; opening = b.opening } };
 
-    ghost invariant = { λ b. (b.table.shared.key.value ≡ b.opening) × (b.table.shared.table_id.words ≡ vars_in b.opening + 1) × (b.table.shared.table_id.slots ≡ 0) };
+    ghost invariant = { λ b. (b.table.shared.key.value ≡ b.opening) × (b.table.shared.table_id.words ≡ vars_in b.opening + 1) × (b.table.shared.table_id.slots ≡ 0) × AreDue (cons_in b.opening) b.opening.facts (length (cons_in b.opening)) b.due.items };
 }
 
 impl EpochBoard {
@@ -59,6 +64,15 @@ impl EpochBoard {
         ensures { result ≡ length (cons_in self.now.opening) }
     {
         self.opening.case.system.constraints.as_slice().len() as u32
+    }
+
+    /// The constraints that are to be examined, in increasing order. The opening facts settle the others: they give
+    /// each of their terms a value, and some row agrees, so that they force nothing more as long as they stand.
+    #[inline(always)]
+    pub fn due(&self) -> &[u32]
+        ensures { AreDue (cons_in self.now.opening) self.now.opening.facts (length (cons_in self.now.opening)) result.now }
+    {
+        self.due.as_slice()
     }
 
     /// The constraints that are listed for a variable. Nothing is promised of them.

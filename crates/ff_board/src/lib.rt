@@ -3,7 +3,9 @@
 
 mod board;
 mod collect;
+mod due;
 mod examine;
+mod few;
 mod offering;
 mod opening;
 mod reading;
@@ -13,6 +15,7 @@ mod sweep;
 
 pub use board::EpochBoard;
 pub use examine::Look;
+pub use few::are_few;
 pub use offering::Offer;
 pub use opening::Opening;
 pub use seats::BoardSeat;

@@ -8,7 +8,8 @@ ghost use Rattle.ff_propagate.specs.declared.facts.Fact.{Fact as FactSpec};
 ghost use Rattle.ff_propagate.specs.Facts.{fact_at};
 ghost use Rattle.ff_propagate.specs.FactRule.{MeetsFactRule};
 ghost use Rattle.ff_propagate.specs.Agreeing.{Agree};
-ghost use Rattle.ff_board.specs.Views.{IsOpenedWith};
+ghost use Rattle.ff_board.specs.Due.{AreDue};
+ghost use Rattle.ff_board.specs.Views.{IsOpenedWith, AreFew};
 ghost use Rattle.ff_propagate.specs.Words.{held_of, held, number_of};
 ghost use Rattle.ff_board.specs.Facts.{vars_in, cons_in, is_marked};
 ghost use Rattle.ff_board.specs.Rule.{starting, Stand};
@@ -16,6 +17,7 @@ ghost use Rattle.ff_board.specs.Standing.{top_level};
 ghost use Rattle.ff_board.specs.Opened.{IsLowFact, MarksAre, MarksOf, WordOf, WordsOf};
 
 use crate::board::EpochBoard;
+use crate::due::due_of;
 use crate::opening::Opening;
 use crate::seats::BoardSeat;
 use atomic_table::Table;
@@ -119,8 +121,10 @@ fn board_of(
     opening: Opening,
     words: &[u64],
     uses: Arc<Uses>,
+    due: Vec<u32>,
 ) -> Result<(EpochBoard, BoardSeat), NoMemory>
-    requires { Stand opening words.now }
+    requires stand { Stand opening words.now }
+    requires due { AreDue (cons_in opening) opening.facts (length (cons_in opening)) due.items }
     ensures board { IfOk result (λ r. r.0.opening ≡ opening) }
     ensures seat { IfOk result (λ r. (r.1.table ≡ r.0.table) × (r.1.view ≡ starting opening)) }
 {
@@ -130,8 +134,33 @@ fn board_of(
         table,
         opening,
         uses,
+        due,
     };
     Ok((board, BoardSeat { seat }))
+}
+
+// A board with these lists of uses.
+fn open_with(
+    alloc: Global,
+    case: Arc<Case>,
+    uses: Arc<Uses>,
+    givens: &Items<Given>,
+    facts: &Facts,
+) -> Result<(EpochBoard, BoardSeat), NoMemory>
+    requires rule { MeetsFactRule (arc_value case).system.vars (arc_value case).system.constraints givens.now facts.now }
+    requires agree { Agree givens.now }
+    requires few { AreFew (arc_value case) givens.now facts.now }
+    ensures board { IfOk result (λ r. IsOpenedWith (arc_value case) givens.now facts.now r.0.opening) }
+    ensures seat { IfOk result (λ r. (r.1.table ≡ r.0.table) × (r.1.view ≡ starting r.0.opening)) }
+{
+    let words = words_of(alloc, &case.system, facts)?;
+    let due = due_of(alloc, case.system.constraints.as_slice(), facts)?;
+    let opening = Opening {
+        case,
+        givens: givens.copy(alloc)?,
+        facts: facts.copy(alloc)?,
+    };
+    board_of(alloc, opening, words.as_slice(), uses, due)
 }
 
 /// The board of an epoch, opened with facts by the fact rule under its givens, with its first seat. An opening fact by
@@ -144,18 +173,31 @@ pub fn open_board(
 ) -> Result<(EpochBoard, BoardSeat), NoMemory>
     requires rule { MeetsFactRule (arc_value case).system.vars (arc_value case).system.constraints givens.now facts.now }
     requires agree { Agree givens.now }
-    requires few { ((arc_value case).system.vars ≤ 2 ^ 18) × (length (arc_value case).system.constraints ≤ 2 ^ 22) × (length givens.now < 2 ^ 22) }
-    requires low { top_level facts.now < 2 ^ 29 - 2 ^ 18 }
+    requires few { AreFew (arc_value case) givens.now facts.now }
     ensures board { IfOk result (λ r. IsOpenedWith (arc_value case) givens.now facts.now r.0.opening) }
     ensures seat { IfOk result (λ r. (r.1.table ≡ r.0.table) × (r.1.view ≡ starting r.0.opening)) }
 {
-    let words = words_of(alloc, &case.system, facts)?;
     let uses = Uses::new(alloc, case.system.vars, case.system.constraints.as_slice())?;
     let uses = Arc::new(alloc, uses)?;
-    let opening = Opening {
-        case,
-        givens: givens.copy(alloc)?,
-        facts: facts.copy(alloc)?,
-    };
-    board_of(alloc, opening, words.as_slice(), uses)
+    open_with(alloc, case, uses, givens, facts)
+}
+
+impl EpochBoard {
+    /// The board of another epoch of the same case, as `open_board` makes it. The lists of uses are shared.
+    pub fn reopen(
+        &self,
+        alloc: Global,
+        givens: &Items<Given>,
+        facts: &Facts,
+    ) -> Result<(EpochBoard, BoardSeat), NoMemory>
+        requires rule { MeetsFactRule (vars_in self.now.opening) (cons_in self.now.opening) givens.now facts.now }
+        requires agree { Agree givens.now }
+        requires few { AreFew (arc_value self.now.opening.case) givens.now facts.now }
+        ensures board { IfOk result (λ r. IsOpenedWith (arc_value self.now.opening.case) givens.now facts.now r.0.opening) }
+        ensures seat { IfOk result (λ r. (r.1.table ≡ r.0.table) × (r.1.view ≡ starting r.0.opening)) }
+    {
+        let case = Arc::try_clone(&self.opening().case)?;
+        let uses = Arc::try_clone(&self.uses)?;
+        open_with(alloc, case, uses, givens, facts)
+    }
 }

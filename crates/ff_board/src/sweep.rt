@@ -33,8 +33,8 @@ pub enum Sweep {
 }
 
 impl EpochBoard {
-    // Looks at every word, and counts those that are set.
-    fn words_set(&self, seat: &mut BoardSeat) -> u32
+    /// Looks at every word. How many are set.
+    pub fn words_set(&self, seat: &mut BoardSeat) -> u32
         requires seat { IsAt self.now seat.old }
         ensures seat { GoesOn seat.old seat.new }
         ensures count { result ≡ set_below (vars_in self.now.opening) seat.new.view.seen }
@@ -50,19 +50,23 @@ impl EpochBoard {
         count
     }
 
-    // Examines each constraint once.
+    // Examines each constraint that is due once.
     fn pass(&self, seat: &mut BoardSeat) -> Pass
         requires seat { IsAt self.now seat.old }
+        requires opened { Opens self.now.opening seat.old.view.seen }
         ensures seat { GoesOn seat.old seat.new }
         ensures pass { PassEnds self.now.opening seat.old.view.seen seat.new.view.seen result }
     {
+        // where an opening fact was seen, it is that fact
+        seat.is_learned();
+        let due = self.due();
         let mut moved = false;
-        for c in 0..self.count() {
-            match self.examine(seat, c) {
+        for k in 0..due.len() {
+            match self.examine(seat, due[k]) {
                 Look::Quiet => {}
                 Look::Set(_) => moved = true,
                 Look::Moved => moved = true,
-                Look::Dead => return Pass::Dead(c),
+                Look::Dead => return Pass::Dead(due[k]),
             }
         }
         if moved { Pass::Moved } else { Pass::Quiet }
