@@ -1,0 +1,10 @@
+pub mod Standing
+pub mod Due
+pub mod Facts
+pub mod Rule
+pub mod Views
+pub mod Answer
+pub mod Swept
+pub mod Ends
+pub mod Found
+pub mod Opened

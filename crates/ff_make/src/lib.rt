@@ -1,0 +1,6 @@
+//! Makes named crease patterns.
+#![tactic(auto)]
+
+mod accordions;
+
+pub use accordions::make;

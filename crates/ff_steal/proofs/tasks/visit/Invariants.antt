@@ -1,0 +1,10 @@
+use Rattle.std.proofs.Common.{◌≡◌, ◌≤◌}
+use Rattle.ff_board.specs.Views.{GoesOn}
+use Rattle.ff_steal.proofs.tasks.visit.Given as goal
+
+abbrev pub invariant-loop-k : goal.invariant-loop-k
+invariant-loop-k g l = record {
+  goes : GoesOn l.initial.seat l.seat;
+  who : g.M.Member.who l.member ≡ g.M.Member.who l.initial.member;
+  less : l.more ≤ l.left;
+}
