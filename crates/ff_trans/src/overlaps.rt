@@ -185,7 +185,7 @@ fn count_first(
     requires clear { IsClear row.old }
     ensures long { OnOk result (length row.new ≡ length row.old) }
     ensures clear { OnOk result (IsClear row.new) }
-    ensures refused { IfErr result (AreNoTriples cells.now pairs.now) }
+    ensures refused { IfErr result (WhyNoTriples cells.now pairs.now) }
 {
     if most_triples(pairs) <= MOST_CONSTRAINTS {
         return Ok(());
