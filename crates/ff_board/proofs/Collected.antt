@@ -25,22 +25,25 @@ module _ (o : Opening) (ws : List ℕ) (fs : List (Option Fact)) (wide : length 
     (rule : (v : ℕ) (h : Held) → v < vars_in o → held ws v ≡ Some h → FactOk o ws v h) where
   stands : (v : ℕ) (h : Held) (r : Reason) → ReasonOk o ws v h r → StandsBy (cons_in o) o.givens fs v h.fact.value h.fact.level r
   stands v h (by.Given i) ok = ok
-  stands v h (by.Forced c) ok = (ok.up, record {
-    constraint = ok.con;
-    there = ok.there;
-    forces = forces_more ok.con.kind ok.con.terms (Marked ws ok.con.terms h.marks) (IsKnownBelow fs h.fact.level) v h.fact.value
-        (λ j s l m. let g = ok.lower m.0 m.1 m.2 in let u = (term_at ok.con.terms j).var in
-        let inside = ((arc_value o.case).system.fit c ok.con ok.there).within j l in
-        let here : held ws u ≡ Some g.0 = ap (held ws) (sym m.3) ∙ g.1 in
-        let same : m.4.0 ≡ g.0 = let a = m.4.1 in cc in
-        record {
-          fact = g.0.fact;
-          there = found u inside ∙ ap fact_of here;
-          lower = g.2;
-          value = ap (λ (x : Held). x.fact.value) (sym same) ∙ m.4.2;
-        })
-        ok.forces;
-  })
+  stands v h (by.Forced c) ok = (
+    ok.up,
+    record {
+      constraint = ok.con;
+      there = ok.there;
+      forces = forces_more ok.con.kind ok.con.terms (Marked ws ok.con.terms h.marks) (IsKnownBelow fs h.fact.level) v h.fact.value
+          (λ j s l m. let g = ok.lower m.0 m.1 m.2 in let u = (term_at ok.con.terms j).var in
+          let inside = ((arc_value o.case).system.fit c ok.con ok.there).within j l in
+          let here : held ws u ≡ Some g.0 = ap (held ws) (sym m.3) ∙ g.1 in
+          let same : m.4.0 ≡ g.0 = let a = m.4.1 in cc in
+          record {
+            fact = g.0.fact;
+            there = found u inside ∙ ap fact_of here;
+            lower = g.2;
+            value = ap (λ (x : Held). x.fact.value) (sym same) ∙ m.4.2;
+          })
+          ok.forces;
+    },
+  )
 
   given_of : (v : ℕ) (x : Option Fact) → is_by_given x ≡ true → fact_at o.facts v ≡ x → Opens o ws → v < vars_in o → HasGivenFact fs v
   given_of v None e at opens l = absurd (let q : false ≡ true = e in cc)

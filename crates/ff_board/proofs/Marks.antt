@@ -69,7 +69,7 @@ pub found_by : (o : Opening) (con : Constraint) (c : ℕ) (old mid new : List �
     → Grows mid new
     → ((j : ℕ) → j < length con.terms → is_marked marks j ≡ true → Lower mid k (term_at con.terms j).var)
     → ((j : ℕ) (g : Held) → j < length con.terms → (term_at con.terms j).var ≢ v → held old (term_at con.terms j).var ≡ Some g
-        → g.fact.level < k → is_marked marks j ≡ true)
+    → g.fact.level < k → is_marked marks j ≡ true)
     → MarksFound o old new v k marks (by.Forced c)
 found_by o con c old mid new v k marks is grow marked all other there =
     subst (λ (x : Constraint). AreMarksFound x.terms old new v k marks) (one con other (sym is ∙ there)) (record {

@@ -101,8 +101,7 @@ pub givens_stand : (vars : ℕ) (cons : List Constraint) (gs : List Given) (fs :
     → ((i j : ℕ) (g h : Given) → slice_get gs i ≡ Some g → slice_get gs j ≡ Some h → Contradict g h → ⊥) → GivensStand gs fs
 givens_stand vars cons gs fs rule agree i g at =
     let t = rule.given i g at in
-    let s = subst (StandsBy cons gs fs g.var t.fact.value t.fact.level) t.by_given (rule.stands g.var t.fact t.there) in
-    (
+    let s = subst (StandsBy cons gs fs g.var t.fact.value t.fact.level) t.by_given (rule.stands g.var t.fact t.there) in (
       ap seen t.there ∙ ap Some (order_same t.fact.value g.value (λ apart. agree t.number i s.1.given g s.1.there at (s.1.variable, λ e. apart (sym s.1.value ∙ e)))),
       ap is_by_given t.there ∙ by_given t.fact t.number t.by_given,
     )

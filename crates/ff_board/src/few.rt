@@ -13,13 +13,7 @@ fn top_with_fact(fact: Option<Fact>, top: u32) -> u32
 {
     match fact {
         None => top,
-        Some(fact) => {
-            if fact.level < top {
-                top
-            } else {
-                fact.level
-            }
-        }
+        Some(fact) => { if fact.level < top { top } else { fact.level } }
     }
 }
 

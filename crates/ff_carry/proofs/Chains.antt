@@ -23,11 +23,15 @@ first_from [] v = inr (λ i g at e. let q : None ≡ Some g = at in cc)
 first_from (x ∷ gs) v = dite (ℕ_discrete x.var v)
     (λ e. inl (zero, x, record { there = refl; variable = e; first = λ j k l. absurd (omega arith) }))
     (λ n. ⊎_elim
-    (λ t. inl (suc t.0, t.1, record {
-      there = t.2.there;
-      variable = t.2.variable;
-      first = λ j k l at e. first_of t.0 t.1 t.2 j k l at e n;
-    }))
+    (λ t. inl (
+      suc t.0,
+      t.1,
+      record {
+        there = t.2.there;
+        variable = t.2.variable;
+        first = λ j k l at e. first_of t.0 t.1 t.2 j k l at e n;
+      },
+    ))
     (λ none. inr (λ i g at e. none_of i g at e n none)) (first_from gs v))
   where
     first_of : (i : ℕ) (g : Given) → IsFirstGiven gs v i g → (j : ℕ) (k : Given) → j < suc i → slice_get (x ∷ gs) j ≡ Some k → k.var ≡ v → x.var ≢ v → ⊥

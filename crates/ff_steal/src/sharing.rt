@@ -4,9 +4,9 @@ ghost use Rattle.ff_board.specs.Facts.{vars_in, cons_in};
 ghost use Rattle.ff_board.specs.Views.{IsAt, GoesOn};
 ghost use Rattle.ff_steal.specs.Shares.{IsDone, AreDone};
 
-use ff_outside::{Gate, GateAt};
 use crate::members::Member;
 use ff_board::{BoardSeat, EpochBoard, Look};
+use ff_outside::{Gate, GateAt};
 
 /// Examines a constraint until it forces nothing more.
 pub(crate) fn settle<M: Member>(board: &EpochBoard, seat: &mut BoardSeat, member: &mut M, c: u32)

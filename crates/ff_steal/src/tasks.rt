@@ -4,10 +4,10 @@ ghost use Rattle.ff_board.specs.Facts.{vars_in, cons_in};
 ghost use Rattle.ff_board.specs.Views.{IsAt, GoesOn};
 
 use crate::crews::Crew;
-use ff_outside::{Gate, GateAt};
 use crate::members::Member;
 use crate::sharing::settle;
 use ff_board::{BoardSeat, EpochBoard};
+use ff_outside::{Gate, GateAt};
 
 // Settles the listed constraints, at most `left` of them. How many are left then.
 fn visit<G: Gate, M: Member>(

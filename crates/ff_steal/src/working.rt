@@ -5,11 +5,11 @@ ghost use Rattle.ff_board.specs.Views.{IsAt, GoesOn};
 ghost use Rattle.ff_steal.specs.Shares.{AreDone};
 
 use crate::crews::{Crew, Hand};
-use ff_outside::Gate;
 use crate::members::Helper;
 use crate::sharing::share;
 use crate::tasks::tasks;
 use ff_board::{BoardSeat, EpochBoard};
+use ff_outside::Gate;
 
 /// The work of a hand, which stays the hand that it is.
 pub fn work_with<G: Gate + Sync>(

@@ -11,8 +11,7 @@ returns-in-Some c = let gs = c.args.givens.now in
 
 pub returns : goal.returns
 returns c = let gs = c.args.givens.now in let base = c.give-clash.new.facts in
-    let none : c.give-clash.result ≡ None = search rules in
-    (
+    let none : c.give-clash.result ≡ None = search rules in (
       agree gs base c.give-clash.ensures.gives (subst (GaveAll gs (length gs) base) none c.give-clash.ensures.gave),
       carried gs base c.give-clash.ensures.gives (length c.args.old.now) c.args.constraints.now c.args.old.now c.keep_all.new.facts (search rules) c.keep_all.ensures,
     )

@@ -10,8 +10,7 @@ use Rattle.ff_board.proofs.board.EpochBoard.look.Goals as goal
 pub load-requires : goal.load-requires
 load-requires c = let b = c.self.inside in let k = c.self.invariant in
     let here : c.args.var < vars_in b.table.shared.key.value =
-    let e = ap vars_in k.0 in let f = ap (λ (x : BoardView). vars_in x.opening) c.self.view_is in omega (arith, c.requires.var) in
-    (
+    let e = ap vars_in k.0 in let f = ap (λ (x : BoardView). vars_in x.opening) c.self.view_is in omega (arith, c.requires.var) in (
       ap (λ (x : SeatView). x.table) c.seat.view_is ∙ (c.requires.seat.0 ∙ sym (ap (λ (x : BoardView). x.table) c.self.view_is)),
       omega (arith, here, ap vars_in k.0, k.1),
       loads _ _ _ _ _ here,

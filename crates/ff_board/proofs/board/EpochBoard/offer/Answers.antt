@@ -36,16 +36,15 @@ pub returns-in-None-clause-answers : goal.returns-in-None-clause-answers
 returns-in-None-clause-answers c =
     let o = c.args.self.now.opening in let con = c.constraint-con.result.now in let m = c.marks-marks.ensures in
     let t = c.put.ensures.look in let n = c.put.result in let z : n ≡ 0 = unset n (sym c.in-None.ensures) in
-    let at = c.put.ensures.seat.1 ∙ (m.seat.1 ∙ c.requires.seat.1) in
-    (
+    let at = c.put.ensures.seat.1 ∙ (m.seat.1 ∙ c.requires.seat.1) in (
       (omega (arith, m.seat.3, ap (λ (d : View). d.looks) t.is), n, ap (λ (d : View). d.last) t.is, ap fact_of (sym c.in-None.ensures)),
       (
-      c.marks-marks.result,
-      t.here ∙ (ap held_of (ap (λ (b : Bool). either b c.write_word-word.result n) (eq-eqb n 0 z)) ∙ c.write_word-word.ensures),
-      subst (λ (x : Opening × Reason). MarksFound x.0 c.args.seat.now.view.seen c.put.new.seat.view.seen c.args.var c.args.fact.level c.marks-marks.result x.1) (λ k. (sym at k, sym c.in-Forced.is k))
-      (found_by o con c.in-Forced.index c.args.seat.now.view.seen c.marks-marks.new.seat.view.seen c.put.new.seat.view.seen c.args.var c.args.fact.level c.marks-marks.result c.constraint-con.ensures t.kept
-      (subst (λ (ts : List Term). (j : ℕ) → j < length ts → is_marked c.marks-marks.result j ≡ true → Lower c.marks-marks.new.seat.view.seen c.args.fact.level (term_at ts j).var) c.as_slice.ensures.value m.marked)
-      (subst (λ (ts : List Term). (j : ℕ) (g : Held) → j < length ts → (term_at ts j).var ≢ c.args.var → held c.args.seat.now.view.seen (term_at ts j).var ≡ Some g → g.fact.level < c.args.fact.level → is_marked c.marks-marks.result j ≡ true) c.as_slice.ensures.value m.all)),
+        c.marks-marks.result,
+        t.here ∙ (ap held_of (ap (λ (b : Bool). either b c.write_word-word.result n) (eq-eqb n 0 z)) ∙ c.write_word-word.ensures),
+        subst (λ (x : Opening × Reason). MarksFound x.0 c.args.seat.now.view.seen c.put.new.seat.view.seen c.args.var c.args.fact.level c.marks-marks.result x.1) (λ k. (sym at k, sym c.in-Forced.is k))
+            (found_by o con c.in-Forced.index c.args.seat.now.view.seen c.marks-marks.new.seat.view.seen c.put.new.seat.view.seen c.args.var c.args.fact.level c.marks-marks.result c.constraint-con.ensures t.kept
+            (subst (λ (ts : List Term). (j : ℕ) → j < length ts → is_marked c.marks-marks.result j ≡ true → Lower c.marks-marks.new.seat.view.seen c.args.fact.level (term_at ts j).var) c.as_slice.ensures.value m.marked)
+            (subst (λ (ts : List Term). (j : ℕ) (g : Held) → j < length ts → (term_at ts j).var ≢ c.args.var → held c.args.seat.now.view.seen (term_at ts j).var ≡ Some g → g.fact.level < c.args.fact.level → is_marked c.marks-marks.result j ≡ true) c.as_slice.ensures.value m.all)),
       ),
     )
 

@@ -14,8 +14,7 @@ compare_exchange-requires c = let b = c.self.inside in let k = c.self.invariant 
     let e = ap vars_in k.0 in let f = ap (λ (x : BoardView). vars_in x.opening) c.self.view_is in omega (arith, c.requires.var) in
     let may : MayPut d c.args.var c.args.word = subst (λ (x : SeatView). MayPut x.view c.args.var c.args.word) (sym c.seat.view_is) c.requires.word in
     let of : d.opening ≡ b.table.shared.key.value =
-    ap (λ (x : SeatView). x.view.opening) c.seat.view_is ∙ (c.requires.seat.1 ∙ (sym (ap (λ (x : BoardView). x.opening) c.self.view_is) ∙ sym k.0)) in
-    (
+    ap (λ (x : SeatView). x.view.opening) c.seat.view_is ∙ (c.requires.seat.1 ∙ (sym (ap (λ (x : BoardView). x.opening) c.self.view_is) ∙ sym k.0)) in (
       ap (λ (x : SeatView). x.table) c.seat.view_is ∙ (c.requires.seat.0 ∙ sym (ap (λ (x : BoardView). x.table) c.self.view_is)),
       omega (arith, here, ap vars_in k.0, k.1),
       looks _ _ _ _ _ _ here (inr (λ unseen. subst (λ (o : Opening). Offered o d.seen c.args.var c.args.word) of (may unseen))),

@@ -32,4 +32,3 @@ loop-v-preserved c = let l = c.loop-v in let was = l.invariant in let look = c.l
 
 pub returns-clause-opened : goal.returns-clause-opened
 returns-clause-opened c u f p = c.loop-v.invariant.opened u f (let b = fact_inside c.args.self.now.opening.facts u f p in omega (arith, c.args.self.now.opening.wide, c.vars-v-end.ensures)) p
-
