@@ -1,0 +1,6 @@
+mod NumberLemmas
+mod PlaceLaws
+mod CiteLaws
+mod LineLaws
+mod LogLaws
+mod Others

@@ -1,0 +1,134 @@
+-- Which line, cite or place words write.
+-- For the proofs of this crate alone.
+use Rattle.std.specs.Prelude.{◌^◌, ◌==◌, ◌&&◌, ℕ, ℤ, pos, List, [], ◌∷◌, Option, Some, None, codes}
+use Rattle.std.specs.Prelude.{if◌then◌else◌, option_map, option_and_then}
+use Rattle.std.specs.List.{slice_split}
+use Rattle.std.specs.Str.{bytes_eq}
+use Rattle.ff_tables.specs.declared.orders.Order.{Order}
+use Rattle.ff_tables.specs.declared.orders.Order.TheVariants.{Below, Above}
+use Rattle.ff_whole.specs.declared.sizes.TheConstants.{PLACE_SIZE, PLACE_WEIGHT}
+use Rattle.ff_whole.specs.declared.places.Place.{Place}
+use Rattle.ff_types.specs.declared.cites.Cite.{Cite}
+use Rattle.ff_types.specs.declared.cites.Cite.TheVariants.{Transitivity, TacoTaco, TacoFace, TacoEdge, FlatFace, FlatEdge}
+use Rattle.ff_log.specs.Numbers.{number_of, signed_of}
+use Rattle.ff_log.specs.Spelling.{place_word}
+use Rattle.ff_log.specs.declared.cites.Beside.{Beside}
+use Rattle.ff_log.specs.declared.cites.Beside.TheVariants as beside
+use Rattle.ff_log.specs.declared.logs.LogLine.{LogLine}
+use Rattle.ff_log.specs.declared.logs.LogLine.TheVariants as line
+
+-- ---- places behind other words
+
+-- a space, and then the place
+abbrev pub spaced : Place → List ℕ
+spaced p = 32 ∷ place_word p
+
+-- ---- words
+
+abbrev pub order_of : List ℕ → Option Order
+order_of t = if bytes_eq t (codes "above") then Some Above else (if bytes_eq t (codes "below") then Some Below else None)
+
+abbrev pub number : List ℕ → Option ℕ
+number = number_of (2 ^ 32)
+
+abbrev pub weight : List ℕ → Option ℤ
+weight t = option_and_then (λ n. if n == 0 then None else Some (pos n)) (number_of PLACE_WEIGHT t)
+
+abbrev pub place_by : List (List ℕ) → Option Place
+place_by (x ∷ y ∷ w ∷ []) =
+    option_and_then (λ a. option_and_then (λ b. option_map (λ c. record { x = a; y = b; w = c }) (weight w)) (signed_of PLACE_SIZE y)) (signed_of PLACE_SIZE x)
+place_by _ = None
+
+abbrev pub place_of : List ℕ → Option Place
+place_of t = place_by (slice_split (λ b. b == 44) t)
+
+abbrev pub alone : List (List ℕ) → Option ℕ
+alone (e ∷ []) = number e
+alone _ = None
+
+abbrev pub two_numbers : {A : Type 0} → (ℕ → ℕ → A) → List (List ℕ) → Option A
+two_numbers make (f ∷ g ∷ []) = option_and_then (λ a. option_map (λ b. make a b) (number g)) (number f)
+two_numbers make _ = None
+
+-- ---- cites
+
+abbrev pub three_at : List ℕ → List ℕ → List ℕ → Option Place → Option Place → Option Place → Option Cite
+three_at f g h p q r = option_and_then (λ a. option_and_then (λ b. option_and_then (λ c. option_and_then (λ u. option_and_then (λ v.
+    option_map (λ w. Transitivity a b c (u ∷ v ∷ w ∷ [])) r) q) p) (number h)) (number g)) (number f)
+
+abbrev pub three_words : List ℕ → List ℕ → List ℕ → List ℕ → List ℕ → List ℕ → List ℕ → Option Cite
+three_words f g h a p q r = if bytes_eq a (codes "at") then three_at f g h (place_of p) (place_of q) (place_of r) else None
+
+abbrev pub transitivity_by : List (List ℕ) → Option Cite
+transitivity_by (f ∷ g ∷ h ∷ a ∷ p ∷ q ∷ r ∷ []) = three_words f g h a p q r
+transitivity_by _ = None
+
+abbrev pub face_at : List ℕ → List ℕ → Option Place → Option Place → Option Beside
+face_at e f p q = option_and_then (λ m. option_and_then (λ n. option_and_then (λ u. option_map (λ v. beside.Face m n (u ∷ v ∷ [])) q) p) (number f)) (number e)
+
+abbrev pub face_words : List ℕ → List ℕ → List ℕ → List ℕ → List ℕ → List ℕ → Option Beside
+face_words e k f a p q =
+    if bytes_eq k (codes "face") && bytes_eq a (codes "at") then face_at e f (place_of p) (place_of q) else None
+
+abbrev pub edge_at : List ℕ → List ℕ → Option Beside
+edge_at e f = option_and_then (λ m. option_map (λ n. beside.Edge m n) (number f)) (number e)
+
+abbrev pub edge_words : List ℕ → List ℕ → List ℕ → Option Beside
+edge_words e k f = if bytes_eq k (codes "edge") then edge_at e f else None
+
+abbrev pub beside_by : List (List ℕ) → Option Beside
+beside_by (e ∷ k ∷ f ∷ []) = edge_words e k f
+beside_by (e ∷ k ∷ f ∷ a ∷ p ∷ q ∷ []) = face_words e k f a p q
+beside_by _ = None
+
+-- what runs along or into a folded edge, and a flat one
+abbrev pub taco_cite : Beside → Cite
+taco_cite (beside.Face e face at) = TacoFace e face at
+taco_cite (beside.Edge e other) = TacoEdge e other
+
+abbrev pub flat_cite : Beside → Cite
+flat_cite (beside.Face e face at) = FlatFace e face at
+flat_cite (beside.Edge e other) = FlatEdge e other
+
+abbrev pub cite_words_by : List ℕ → List (List ℕ) → Option Cite
+cite_words_by w ws =
+    if bytes_eq w (codes "transitivity") then transitivity_by ws
+    else (if bytes_eq w (codes "taco-taco") then two_numbers (λ e k. TacoTaco e k) ws
+    else (if bytes_eq w (codes "taco-tortilla") then option_map taco_cite (beside_by ws)
+    else (if bytes_eq w (codes "tortilla-tortilla") then option_map flat_cite (beside_by ws) else None)))
+
+abbrev pub cite_by : List (List ℕ) → Option Cite
+cite_by [] = None
+cite_by (w ∷ ws) = cite_words_by w ws
+
+-- ---- lines
+
+abbrev pub try_by : List (List ℕ) → Option LogLine
+try_by (f ∷ g ∷ v ∷ []) =
+    option_and_then (λ a. option_and_then (λ b. option_map (λ o. line.Try a b o) (order_of v)) (number g)) (number f)
+try_by _ = None
+
+abbrev pub force_by : List (List ℕ) → Option LogLine
+force_by (f ∷ g ∷ v ∷ k ∷ []) =
+    option_and_then (λ a. option_and_then (λ b. option_and_then (λ o. option_map (λ c. line.Force a b o c) (number k)) (order_of v)) (number g)) (number f)
+force_by _ = None
+
+-- the lines that declare nothing
+abbrev pub plain_by : List ℕ → List (List ℕ) → Option LogLine
+plain_by w ws =
+    if bytes_eq w (codes "crease") then option_map (λ e. line.Crease e) (alone ws)
+    else (if bytes_eq w (codes "pin") then option_map (λ i. line.Pin i) (alone ws)
+    else (if bytes_eq w (codes "dead") then option_map (λ k. line.Dead k) (alone ws)
+    else (if bytes_eq w (codes "clash") then two_numbers (λ f g. line.Clash f g) ws
+    else (if bytes_eq w (codes "try") then try_by ws
+    else (if bytes_eq w (codes "force") then force_by ws else None)))))
+
+abbrev pub line_words : List ℕ → List (List ℕ) → Option LogLine
+line_words w ws = if bytes_eq w (codes "use") then option_map (λ c. line.Use c) (cite_by ws) else plain_by w ws
+
+abbrev pub line_by : List (List ℕ) → Option LogLine
+line_by [] = None
+line_by (w ∷ ws) = line_words w ws
+
+abbrev pub line_of : List ℕ → Option LogLine
+line_of t = line_by (slice_split (λ b. b == 32) t)
