@@ -1,0 +1,4 @@
+pub mod Givens
+pub mod Making
+pub mod Marks
+pub mod Telling
