@@ -1,6 +1,0 @@
-mod Trials
-mod Kept
-mod Firsts
-mod Chains
-mod Orders
-mod Carries

@@ -1,5 +1,0 @@
-pub mod Trying
-pub mod Carrying
-pub mod Keeping
-pub mod Laws
-pub mod Ends
