@@ -10,7 +10,7 @@ use Rattle.ff_types.proofs.SortedPairs.{number_there}
 use Rattle.std.proofs.lemmas.Bool.{ltb-true, false≢true}
 use Rattle.std.proofs.lemmas.List.{length_push}
 use Rattle.std.proofs.lemmas.Option.{slice_get_within, slice_get-get_or, get_or_from_slice_get}
-use Rattle.ff_basics.proofs.Memberships.{by_member, filter_in, in_filter, no_member, range_in}
+use Rattle.ff_basics.proofs.Memberships.{filter_in, in_filter, range_in}
 use Rattle.ff_basics.proofs.Tests.{both_of}
 use Rattle.ff_basics.proofs.Lists.{all_at, member_some}
 use Rattle.ff_whole.specs.declared.places.Place.{Place}

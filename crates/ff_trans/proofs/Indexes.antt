@@ -1,36 +1,36 @@
 -- The cells of each face, cell by cell.
-use Rattle.std.proofs.Common.{◌≡◌, ℕ, zero, suc, ◌+◌, ◌<◌, ◌⊎◌, inl, inr, refl, sym, ap, ◌∙◌, subst, arith, List, [], ◌∷◌, ◌++◌, length, replicate, get_or, set, slice_index, slice_set, slice_get, Some, Vec}
+use Rattle.std.proofs.Common.{◌≡◌, ℕ, ◌+◌, ◌<◌, ◌⊎◌, inl, inr, refl, sym, ap, ◌∙◌, subst, arith, List, [], ◌∷◌, ◌++◌, length, replicate, get_or, set, slice_index, slice_set, slice_get, Some, Vec}
 use Rattle.std.specs.declared.alloc.Global.{Global}
 use Rattle.std.specs.List.{Contains}
 use Rattle.std.specs.List.Sorted.{IsStrictlyIncreasing}
 use Rattle.std.proofs.lemmas.Bool.{cases_eq}
-use Rattle.std.proofs.lemmas.List.{map_push, length-set, get_or-set_same, get_or-set_other, get_or-map, get_or-replicate, length-replicate, replicate_more, get_or_append_left, get_or_push, length-append}
+use Rattle.std.proofs.lemmas.List.{length-set, get_or-set_same, get_or-set_other, get_or-map, get_or-replicate, length-replicate, get_or_append_left, get_or_push, length-append}
 use Rattle.std.proofs.lemmas.List.Kept.{AllPairs-from_increasing}
 use Rattle.std.proofs.Math.ListN.{take}
 use Rattle.std.proofs.Math.Seq.{take-append_seam}
-use Rattle.std.proofs.lemmas.Option.{slice_get_within, same_Some}
+use Rattle.std.proofs.lemmas.Option.{same_Some}
 use Rattle.ff_basics.specs.NumberedLists.{list_at, lists_in}
 use Rattle.ff_basics.proofs.Numbers.{last_or}
 use Rattle.ff_whole.proofs.Searches.{search}
 use Rattle.ff_cells.specs.declared.cell.Cell.{Cell}
-use Rattle.ff_trans.specs.Rows.{HasFace, AreCellsOf, HoldBoth, AreIndexed, IsPut}
+use Rattle.ff_trans.specs.Rows.{HasFace, AreCellsOf, AreIndexed, IsPut}
 use Rattle.ff_trans.proofs.Marks.{place_in, member_at}
 
 -- ---- one cell
 
-pub put_none : (faces : List ℕ) (cell : ℕ) (lists : List (List ℕ)) → IsPut faces 0 cell lists lists
-put_none faces cell lists = record { long = refl; put = λ j l. absurd (omega (arith, l)); same = λ f n. refl }
+pub put_none : (faces : List ℕ) (from cell : ℕ) (lists : List (List ℕ)) → IsPut faces from from cell lists lists
+put_none faces from cell lists = record { long = refl; put = λ j g l. absurd (omega (arith, g, l)); same = λ f n. refl }
 
 pub put_more : (faces : List ℕ) (j cell : ℕ) (old mid new : List (List ℕ)) → IsStrictlyIncreasing faces → j < length faces → slice_index faces j < length old
-    → IsPut faces j cell old mid → new ≡ slice_set mid (slice_index faces j) (list_at mid (slice_index faces j) ++ cell ∷ []) → IsPut faces (j + 1) cell old new
+    → IsPut faces 0 j cell old mid → new ≡ slice_set mid (slice_index faces j) (list_at mid (slice_index faces j) ++ cell ∷ []) → IsPut faces 0 (j + 1) cell old new
 put_more faces j cell old mid new up l below a e = record {
   long = ap length e ∙ length-set mid f (list_at mid f ++ cell ∷ []) ∙ a.long;
-  put = λ i m. elim (last_or i j m) [
-    | inl n ↦ ap (λ ls. list_at ls (slice_index faces i)) e ∙ get_or-set_other mid f (slice_index faces i) (list_at mid f ++ cell ∷ []) [] (different i n) ∙ a.put i n
+  put = λ i g m. elim (last_or i j m) [
+    | inl n ↦ ap (λ ls. list_at ls (slice_index faces i)) e ∙ get_or-set_other mid f (slice_index faces i) (list_at mid f ++ cell ∷ []) [] (different i n) ∙ a.put i g n
     | inr n ↦ ap (λ ls. list_at ls (slice_index faces i)) e ∙ ap (λ k. list_at (set mid f (list_at mid f ++ cell ∷ [])) k) (ap (slice_index faces) n)
         ∙ get_or-set_same mid f (list_at mid f ++ cell ∷ []) [] within ∙ ap (λ xs. xs ++ cell ∷ []) (fresh ∙ ap (list_at old) (ap (slice_index faces) (sym n)))
   ];
-  same = λ k none. ap (λ ls. list_at ls k) e ∙ get_or-set_other mid f k (list_at mid f ++ cell ∷ []) [] (λ d. none j (omega arith) (sym d)) ∙ a.same k (λ i m. none i (omega (arith, m)));
+  same = λ k none. ap (λ ls. list_at ls k) e ∙ get_or-set_other mid f k (list_at mid f ++ cell ∷ []) [] (λ d. none j (omega arith) (omega arith) (sym d)) ∙ a.same k (λ i g m. none i g (omega (arith, m)));
 } where
   f : ℕ
   f = slice_index faces j
@@ -45,7 +45,7 @@ put_more faces j cell old mid new up l below a e = record {
   different i m d = let r = rises i m in omega (arith, r, d)
 
   fresh : list_at mid f ≡ list_at old f
-  fresh = a.same f different
+  fresh = a.same f (λ i g. different i)
 
 -- ---- all of them
 
@@ -55,7 +55,7 @@ index_none cells w lists e = record {
   each = λ f l. subst (AreCellsOf cells 0 f) (sym (ap (λ ls. list_at ls f) e ∙ get_or-replicate w f [] [] l)) (record { rising = λ x y m n. absurd (omega (arith, n)); each = λ x m. absurd (omega (arith, m)); all = λ i m. absurd (omega (arith, m)) });
 }
 
-push_index : (xs : List ℕ) (n i : ℕ) → i < length (xs ++ n ∷ []) → ((i < length xs) × (slice_index (xs ++ n ∷ []) i ≡ slice_index xs i)) ⊎ ((i ≡ length xs) × (slice_index (xs ++ n ∷ []) i ≡ n))
+pub push_index : (xs : List ℕ) (n i : ℕ) → i < length (xs ++ n ∷ []) → ((i < length xs) × (slice_index (xs ++ n ∷ []) i ≡ slice_index xs i)) ⊎ ((i ≡ length xs) × (slice_index (xs ++ n ∷ []) i ≡ n))
 push_index xs n i l = elim (cases_eq i (length xs)) [
   | inl e ↦ inr (e, get_or_push xs n 0 i (sym e))
   | inr ne ↦ (let m : i < length xs = omega (arith, l, ne, length-append xs (n ∷ [])) in inl (m, get_or_append_left xs (n ∷ []) 0 i m))
@@ -93,35 +93,19 @@ module _ (cells : List Cell) (i f : ℕ) (list : List ℕ) (of : AreCellsOf cell
     all = λ k l face. elim (last_or k i l) [ inl m ↦ of.all k m face | inr m ↦ absurd (not (subst (λ n. HasFace cells n f) m face)) ];
   }
 
-pub index_more : (cells : List Cell) (i w : ℕ) (c : Cell) (old new : List (List ℕ)) → slice_get cells i ≡ Some c → AreIndexed cells i w old → IsPut c.faces (length c.faces) i old new → AreIndexed cells (i + 1) w new
+pub index_more : (cells : List Cell) (i w : ℕ) (c : Cell) (old new : List (List ℕ)) → slice_get cells i ≡ Some c → AreIndexed cells i w old → IsPut c.faces 0 (length c.faces) i old new → AreIndexed cells (i + 1) w new
 index_more cells i w c old new at a p = record { long = p.long ∙ a.long; each = each } where
   each : (f : ℕ) → f < w → AreCellsOf cells (i + 1) f (list_at new f)
   each f l = elim (search (length c.faces) (λ j. slice_index c.faces j ≡ f) (λ j. slice_index c.faces j ≡ f → ⊥) (λ j m. cases_eq (slice_index c.faces j) f)) [
-    | inl r ↦ subst (AreCellsOf cells (i + 1) f) (sym (subst (λ k. list_at new k ≡ list_at old k ++ i ∷ []) r.2 (p.put r.0 r.1)))
+    | inl r ↦ subst (AreCellsOf cells (i + 1) f) (sym (subst (λ k. list_at new k ≡ list_at old k ++ i ∷ []) r.2 (p.put r.0 (omega arith) r.1)))
         (with_cell cells i f (list_at old f) (a.each f l) (record { cell = c; there = at; face = member_at c.faces f r.0 r.1 r.2 }))
-    | inr none ↦ subst (AreCellsOf cells (i + 1) f) (sym (p.same f none))
+    | inr none ↦ subst (AreCellsOf cells (i + 1) f) (sym (p.same f (λ j g. none j)))
         (without_cell cells i f (list_at old f) (a.each f l) (λ has. (let q = place_in c.faces f (subst (λ (z : Cell). Contains z.faces f) (same_Some has.cell c (sym has.there ∙ at)) has.face) in none q.0 q.1 q.2)))
   ]
 
 -- what is read of lists that are written whole
 pub whole : {A : Type 0} (n : ℕ) (xs ys : List A) → n ≡ length xs → take n (xs ++ ys) ≡ xs
 whole n xs ys e = ap (λ k. take k (xs ++ ys)) e ∙ take-append_seam xs ys
-
--- ---- the cells of two faces
-
-pub both_of_first : (cells : List Cell) (f h : ℕ) (list : List ℕ) → AreCellsOf cells (length cells) f list → HoldBoth cells f h list
-both_of_first cells f h list of = record {
-  rising = of.rising;
-  within = λ x l. (of.each x l).0;
-  all = λ i a b. of.all i (slice_get_within cells i a.cell a.there) a;
-}
-
-pub both_of_second : (cells : List Cell) (f h : ℕ) (list : List ℕ) → AreCellsOf cells (length cells) h list → HoldBoth cells f h list
-both_of_second cells f h list of = record {
-  rising = of.rising;
-  within = λ x l. (of.each x l).0;
-  all = λ i a b. of.all i (slice_get_within cells i b.cell b.there) b;
-}
 
 -- the cells that were put for a face
 pub put_for : (cells : List Cell) (i f : ℕ) (lists : List (Vec ℕ Global)) (v : Vec ℕ Global) (list : List ℕ) → AreIndexed cells i (length lists) (lists_in lists) → f < length lists

@@ -1,5 +1,6 @@
 mod Marks
 mod Indexes
+mod Shares
 mod Keys
 pub mod Lists
 mod FoundTriples

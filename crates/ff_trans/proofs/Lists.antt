@@ -1,6 +1,6 @@
 -- The list of triples, as far as it is made.
-use Rattle.std.proofs.Common.{◌≡◌, ℕ, zero, suc, ◌+◌, ◌<◌, ◌⊎◌, inl, inr, refl, sym, ap, ◌∙◌, subst, arith, IsTrue, List, [], ◌∷◌, ◌++◌, length, slice_get, Some, None}
-use Rattle.std.proofs.lemmas.Option.{slice_get_within, slice_get-get_or, get_or_from_slice_get, same_Some}
+use Rattle.std.proofs.Common.{◌≡◌, ℕ, ◌+◌, ◌<◌, ◌⊎◌, inl, inr, refl, sym, ap, ◌∙◌, subst, arith, IsTrue, List, [], ◌∷◌, ◌++◌, length, slice_get, Some, None}
+use Rattle.std.proofs.lemmas.Option.{slice_get_within, slice_get-get_or, get_or_from_slice_get}
 use Rattle.ff_basics.proofs.Numbers.{last_or}
 use Rattle.ff_basics.proofs.Lists.{get_before, get_either, get_last}
 use Rattle.ff_types.specs.declared.cites.Cite.TheVariants.{Transitivity}

@@ -6,9 +6,9 @@ use Rattle.ff_cells.specs.declared.cell.Cell.{Cell}
 use Rattle.ff_trans.specs.Triples.{HasThree}
 use Rattle.std.specs.List.Sorted.{IsStrictlyIncreasing}
 use Rattle.std.proofs.lemmas.List.Kept.{AllPairs-from_increasing}
-use Rattle.std.proofs.lemmas.Option.{same_Some}
+use Rattle.std.proofs.lemmas.Option.{same_Some, slice_get_within}
 use Rattle.ff_basics.proofs.Numbers.{last_or}
-use Rattle.ff_trans.specs.Rows.{HoldBoth, row_at, IsClear, IsMarked, IsMarkedWith, IsReach, AreSameFrom, IsFirstOf, IsRowTo, IsFirst, IsRow}
+use Rattle.ff_trans.specs.Rows.{HasFace, AreNumbered, HoldBoth, row_at, IsClear, IsPlaceAbove, IsMarked, IsMarkedAbove, IsReach, AreSameFrom, IsFirstOf, IsRowTo, IsFirst, IsRow}
 
 apart : {A : Type 0} (o : Option A) (x : A) → o ≡ None → o ≡ Some x → ⊥
 apart o x e f = cc
@@ -25,20 +25,24 @@ member_at xs f j l e = (j, l, get_or_default xs j f 0 l ∙ e)
 pub marked_none : (faces : List ℕ) (from cell : ℕ) (row : List (Option ℕ)) → IsMarked faces from from cell row row
 marked_none faces from cell row = record { long = refl; kept = λ k x e. e; marked = λ j m l. absurd (omega (arith, m, l)); only = λ k e. inl e }
 
-pub marked_more : (faces : List ℕ) (from j cell x : ℕ) (old mid new : List (Option ℕ)) → from ≤ j → x ≡ slice_index faces j → IsMarked faces from j cell old mid → IsMarked (x ∷ []) 0 1 cell mid new
-    → IsMarked faces from (j + 1) cell old new
-marked_more faces from j cell x old mid new le e a b = record {
+pub first_or : (a b : ℕ) → a ≤ b → (a + 1 ≤ b) ⊎ (b ≡ a)
+first_or a b l = grind (arith, l)
+
+-- one more before those that are marked
+pub marked_less : (faces : List ℕ) (to from n cell x : ℕ) (old mid new : List (Option ℕ)) → to + 1 ≡ from → from ≤ n → x ≡ slice_index faces to → IsMarked faces from n cell old mid → IsMarked (x ∷ []) 0 1 cell mid new
+    → IsMarked faces to n cell old new
+marked_less faces to from n cell x old mid new next le e a b = record {
   long = b.long ∙ a.long;
   kept = λ k y s. b.kept k y (a.kept k y s);
-  marked = λ i g l n. elim (last_or i j l) [
-    | inl m ↦ b.kept (slice_index faces i) cell (a.marked i g m n)
-    | inr m ↦ at_last i m n
+  marked = λ i g l none. elim (first_or to i g) [
+    | inl m ↦ b.kept (slice_index faces i) cell (a.marked i (omega (arith, m, next)) l none)
+    | inr m ↦ at_first i m none
   ];
-  only = λ k n. elim (a.only k n) [
-    | inr s ↦ inr (b.kept k cell s.0, (s.1.0, s.1.1, (let l = s.1.2 in omega (arith, l)), s.1.3))
+  only = λ k none. elim (a.only k none) [
+    | inr s ↦ inr (b.kept k cell s.0, (s.1.0, (let g = s.1.1 in omega (arith, g, next)), s.1.2, s.1.3))
     | inl s ↦ elim (b.only k s) [
       | inl t ↦ inl t
-      | inr t ↦ inr (t.0, (j, le, omega arith, sym e ∙ first t.1.0 k t.1.2 t.1.3))
+      | inr t ↦ inr (t.0, (to, omega arith, omega (arith, next, le), sym e ∙ first t.1.0 k t.1.2 t.1.3))
     ]
   ];
 } where
@@ -46,12 +50,32 @@ marked_more faces from j cell x old mid new le e a b = record {
   first zero k l d = d
   first (suc i) k l d = absurd (omega (arith, l))
 
-  at_last : (i : ℕ) → i ≡ j → row_at old (slice_index faces i) ≡ None → row_at new (slice_index faces i) ≡ Some cell
-  at_last i m n = elim (a.only (slice_index faces i) n) [
+  at_first : (i : ℕ) → i ≡ to → row_at old (slice_index faces i) ≡ None → row_at new (slice_index faces i) ≡ Some cell
+  at_first i m none = elim (a.only (slice_index faces i) none) [
     | inr s ↦ b.kept (slice_index faces i) cell s.0
     | inl s ↦ (let at : x ≡ slice_index faces i = e ∙ ap (slice_index faces) (sym m) in
         subst (λ k. row_at new k ≡ Some cell) at (b.marked 0 (omega arith) (omega arith) (subst (λ k. row_at mid k ≡ None) (sym at) s)))
   ]
+
+-- the faces up to one that isn't above h aren't
+pub place_above : (faces : List ℕ) → IsStrictlyIncreasing faces → (h p from : ℕ) → p < length faces → slice_index faces p ≤ h → from ≡ p + 1 → ((j : ℕ) → from ≤ j → j < length faces → h < slice_index faces j) → IsPlaceAbove faces h from
+place_above faces up h p from l le e high = record { low = low; high = high } where
+  low : (j : ℕ) → j < from → slice_index faces j ≤ h
+  low j m = elim (last_or j p (omega (arith, m, e))) [
+    | inl b ↦ (let q = AllPairs-from_increasing faces up j p 0 b l in omega (arith, q, le))
+    | inr b ↦ (let q = ap (slice_index faces) b in omega (arith, q, le))
+  ]
+
+-- all of them are
+pub all_above : (faces : List ℕ) (h from : ℕ) → from ≡ 0 → ((j : ℕ) → from ≤ j → j < length faces → h < slice_index faces j) → IsPlaceAbove faces h from
+all_above faces h from e high = record { low = λ j m. absurd (omega (arith, e, m)); high = high }
+
+-- so it is with one more
+pub above_more : (faces : List ℕ) (h to from : ℕ) → to + 1 ≡ from → h < slice_index faces to → ((j : ℕ) → from ≤ j → j < length faces → h < slice_index faces j) → (j : ℕ) → to ≤ j → j < length faces → h < slice_index faces j
+above_more faces h to from next a b j g l = elim (first_or to j g) [
+  | inl m ↦ b j (omega (arith, m, next)) l
+  | inr m ↦ subst (λ i. h < slice_index faces i) (sym m) a
+]
 
 -- what is marked is below a number above the faces
 pub marked_below : (faces : List ℕ) (from n cell past : ℕ) (old new : List (Option ℕ)) → ((j : ℕ) → j < n → slice_index faces j < past) → IsMarked faces from n cell old new → AreSameFrom past old new
@@ -72,16 +96,16 @@ reach_more old new reach past next long r few same a b c = record { within = ome
 
 -- ---- cell by cell
 
-pub row_clear : (cells : List Cell) (list : List ℕ) (f h : ℕ) (row : List (Option ℕ)) → IsClear row → IsRowTo cells list 0 f h (length row) row
-row_clear cells list f h row clear = record { long = refl; each = λ k a l. subst (IsFirstOf cells list 0 f h k) (sym (clear k)) (λ x m. absurd (omega (arith, m))); low = λ k l. clear k }
+pub row_clear : (cells : List Cell) (list : List ℕ) (h : ℕ) (row : List (Option ℕ)) → IsClear row → IsRowTo cells list 0 h (length row) row
+row_clear cells list h row clear = record { long = refl; each = λ k a l. subst (IsFirstOf cells list 0 k) (sym (clear k)) (λ x m. absurd (omega (arith, m))); low = λ k l. clear k }
 
-module _ (cells : List Cell) (list : List ℕ) (f h w : ℕ) (of : HoldBoth cells f h list) where
-  next_some : (n k y : ℕ) → n < length list → IsFirstOf cells list n f h k (Some y) → IsFirstOf cells list (n + 1) f h k (Some y)
+module _ (cells : List Cell) (list : List ℕ) (h w : ℕ) (of : AreNumbered cells list) where
+  next_some : (n k y : ℕ) → n < length list → IsFirstOf cells list n k (Some y) → IsFirstOf cells list (n + 1) k (Some y)
   next_some n k y l (at, has, before) = (
     (at.0, (let m = at.1 in omega (arith, m)), at.2),
     has,
-    λ x m less three. elim (last_or x n m) [
-      | inl b ↦ before x b less three
+    λ x m less face. elim (last_or x n m) [
+      | inl b ↦ before x b less face
       | inr b ↦ (let r = of.rising at.0 n at.1 l in let e = at.2 in
           absurd (later (slice_index list x) (slice_index list n) (slice_index list at.0) y (ap (slice_index list) b) r e less))
     ],
@@ -91,87 +115,78 @@ module _ (cells : List Cell) (list : List ℕ) (f h w : ℕ) (of : HoldBoth cell
 
   module _ (n : ℕ) (c : Cell) (within : n < length list) (at : slice_get cells (slice_index list n) ≡ Some c) (mid new : List (Option ℕ)) where
     -- what the next cell has
-    of_next : (x k : ℕ) → x ≡ n → HasThree cells (slice_index list x) f h k → Contains c.faces f × Contains c.faces h × Contains c.faces k
-    of_next x k e three =
-        let same : three.cell ≡ c = same_Some three.cell c (sym three.there ∙ ap (λ i. slice_get cells (slice_index list i)) e ∙ at) in
-        (subst (λ (z : Cell). Contains z.faces f) same three.first, subst (λ (z : Cell). Contains z.faces h) same three.second, subst (λ (z : Cell). Contains z.faces k) same three.third)
+    of_next : (x k : ℕ) → x ≡ n → HasFace cells (slice_index list x) k → Contains c.faces k
+    of_next x k e has =
+        let same : has.cell ≡ c = same_Some has.cell c (sym has.there ∙ ap (λ i. slice_get cells (slice_index list i)) e ∙ at) in
+        subst (λ (z : Cell). Contains z.faces k) same has.face
 
-    now_none : (k : ℕ) → IsFirstOf cells list n f h k None → (Contains c.faces f → Contains c.faces h → Contains c.faces k → ⊥) → IsFirstOf cells list (n + 1) f h k None
-    now_none k none not x m three = elim (last_or x n m) [
-      | inl b ↦ none x b three
-      | inr b ↦ (let t = of_next x k b three in not t.0 t.1 t.2)
+    now_none : (k : ℕ) → IsFirstOf cells list n k None → (Contains c.faces k → ⊥) → IsFirstOf cells list (n + 1) k None
+    now_none k none not x m face = elim (last_or x n m) [
+      | inl b ↦ none x b face
+      | inr b ↦ not (of_next x k b face)
     ]
 
-    now_some : (k : ℕ) → IsFirstOf cells list n f h k None → Contains c.faces f → Contains c.faces h → Contains c.faces k → IsFirstOf cells list (n + 1) f h k (Some (slice_index list n))
-    now_some k none first second third = (
+    now_some : (k : ℕ) → IsFirstOf cells list n k None → Contains c.faces k → IsFirstOf cells list (n + 1) k (Some (slice_index list n))
+    now_some k none has = (
       (n, omega arith, refl),
-      record { cell = c; there = at; first = first; second = second; third = third },
-      λ x m less three. elim (last_or x n m) [
-        | inl b ↦ none x b three
+      record { cell = c; there = at; face = has },
+      λ x m less face. elim (last_or x n m) [
+        | inl b ↦ none x b face
         | inr b ↦ absurd (not_less (slice_index list x) (slice_index list n) (ap (slice_index list) b) less)
       ],
     ) where
       not_less : (a b : ℕ) → a ≡ b → a < b → ⊥
       not_less a b e l = omega (arith, e, l)
 
-    -- nothing is marked, where the cell lacks one of both faces
-    unmarked : (Contains c.faces f → Contains c.faces h → ⊥) → new ≡ mid → IsRowTo cells list n f h w mid → IsRowTo cells list (n + 1) f h w new
-    unmarked without same r = record { long = ap length same ∙ r.long; each = λ k a l. subst (IsFirstOf cells list (n + 1) f h k) (ap (λ row. row_at row k) (sym same)) (by k (row_at mid k) (r.each k a l)); low = λ k l. ap (λ row. row_at row k) same ∙ r.low k l } where
-      by : (k : ℕ) (o : Option ℕ) → IsFirstOf cells list n f h k o → IsFirstOf cells list (n + 1) f h k o
-      by k (Some y) first = next_some n k y within first
-      by k None first = now_none k first (λ one second third. without one second)
-
-    -- the faces behind h are above it, and the others are not
-    marked_row : IsStrictlyIncreasing c.faces → Contains c.faces f → (p : ℕ) → p < length c.faces → slice_index c.faces p ≡ h → IsMarked c.faces (p + 1) (length c.faces) (slice_index list n) mid new
-        → IsRowTo cells list n f h w mid → IsRowTo cells list (n + 1) f h w new
-    marked_row up first p lt is marks r = record { long = marks.long ∙ r.long; each = λ k a l. by k a (row_at mid k) refl (r.each k a l); low = low } where
-      second : Contains c.faces h
-      second = member_at c.faces h p lt is
-
-      behind : (j : ℕ) → j < length c.faces → h < slice_index c.faces j → p + 1 ≤ j
-      behind j l a = elim (either p j) [
-        | inl b ↦ b
-        | inr b ↦ (let q = no_more j p b lt in absurd (omega (arith, q, a, is)))
-      ] where
-        either : (p j : ℕ) → (p + 1 ≤ j) ⊎ (j < p + 1)
+    -- the faces above h are marked, and the others are not
+    pub row_next : IsMarkedAbove c.faces h (slice_index list n) mid new → IsRowTo cells list n h w mid → IsRowTo cells list (n + 1) h w new
+    row_next (from, place, marks) r = record { long = marks.long ∙ r.long; each = λ k a l. by k a (row_at mid k) refl (r.each k a l); low = low } where
+      behind : (j : ℕ) → h < slice_index c.faces j → from ≤ j
+      behind j a = elim (either from j) [ inl b ↦ b | inr b ↦ (let q = place.low j b in absurd (omega (arith, q, a))) ] where
+        either : (p j : ℕ) → (p ≤ j) ⊎ (j < p)
         either p j = grind arith
-
-        no_more : (j p : ℕ) → j < p + 1 → p < length c.faces → slice_index c.faces j ≤ slice_index c.faces p
-        no_more j p l m = elim (last_or j p l) [
-          | inl b ↦ (let q = AllPairs-from_increasing c.faces up j p 0 b m in omega (arith, q))
-          | inr e ↦ (let q = ap (slice_index c.faces) e in omega (arith, q))
-        ]
 
       low : (k : ℕ) → k ≤ h → row_at new k ≡ None
       low k l = elim (marks.only k (r.low k l)) [
         | inl s ↦ s
-        | inr s ↦ (let q = AllPairs-from_increasing c.faces up p s.1.0 0 (let b = s.1.1 in omega (arith, b)) s.1.2 in let i = s.1.3 in absurd (omega (arith, q, i, is, l)))
+        | inr s ↦ (let q = place.high s.1.0 s.1.1 s.1.2 in let i = s.1.3 in absurd (omega (arith, q, i, l)))
       ]
 
-      by : (k : ℕ) → h < k → (o : Option ℕ) → row_at mid k ≡ o → IsFirstOf cells list n f h k o → IsFirstOf cells list (n + 1) f h k (row_at new k)
-      by k a (Some y) e found = subst (IsFirstOf cells list (n + 1) f h k) (sym (marks.kept k y e)) (next_some n k y within found)
+      by : (k : ℕ) → h < k → (o : Option ℕ) → row_at mid k ≡ o → IsFirstOf cells list n k o → IsFirstOf cells list (n + 1) k (row_at new k)
+      by k a (Some y) e found = subst (IsFirstOf cells list (n + 1) k) (sym (marks.kept k y e)) (next_some n k y within found)
       by k a None e found = elim (marks.only k e) [
-        | inr s ↦ subst (IsFirstOf cells list (n + 1) f h k) (sym s.0) (now_some k found first second (member_at c.faces k s.1.0 s.1.2 s.1.3))
-        | inl s ↦ subst (IsFirstOf cells list (n + 1) f h k) (sym s) (now_none k found (λ _ _ third. (let p = place_in c.faces k third in let i = p.2 in
+        | inr s ↦ subst (IsFirstOf cells list (n + 1) k) (sym s.0) (now_some k found (member_at c.faces k s.1.0 s.1.2 s.1.3))
+        | inl s ↦ subst (IsFirstOf cells list (n + 1) k) (sym s) (now_none k found (λ face. (let p = place_in c.faces k face in let i = p.2 in
             apart (row_at new k) (slice_index list n) s (subst (λ i. row_at new i ≡ Some (slice_index list n)) p.2
-            (marks.marked p.0 (behind p.0 p.1 (omega (arith, a, i))) p.1 (subst (λ i. row_at mid i ≡ None) (sym p.2) e))))))
+            (marks.marked p.0 (behind p.0 (omega (arith, a, i))) p.1 (subst (λ i. row_at mid i ≡ None) (sym p.2) e))))))
       ]
 
-    pub row_next : IsStrictlyIncreasing c.faces → IsMarkedWith c.faces f h (slice_index list n) mid new → IsRowTo cells list n f h w mid → IsRowTo cells list (n + 1) f h w new
-    row_next up (inl (first, inl (p, lt, is, marks))) r = marked_row up first p lt is marks r
-    row_next up (inl (first, inr (without, same))) r = unmarked (λ one second. without second) same r
-    row_next up (inr (without, same)) r = unmarked (λ one second. without one) same r
+-- ---- the cells that a pair shares
+
+module _ (cells : List Cell) (f h : ℕ) (list : List ℕ) (of : HoldBoth cells f h list) where
+  pub are_numbered : AreNumbered cells list
+  are_numbered = record { rising = of.rising; within = λ x l. (let b = (of.each x l).0 in slice_get_within cells (slice_index list x) b.cell b.there) }
+
+  three_of : (i k : ℕ) → HasFace cells i f → HasFace cells i h → HasFace cells i k → HasThree cells i f h k
+  three_of i k a b d = record {
+    cell = a.cell;
+    there = a.there;
+    first = a.face;
+    second = subst (λ (z : Cell). Contains z.faces h) (same_Some b.cell a.cell (sym b.there ∙ a.there)) b.face;
+    third = subst (λ (z : Cell). Contains z.faces k) (same_Some d.cell a.cell (sym d.there ∙ a.there)) d.face;
+  }
 
   -- a cell with all three faces is one of the list
-  listed_at : (i k : ℕ) → HasThree cells i f h k → (x : ℕ) × (x < length list) × (slice_index list x ≡ i)
-  listed_at i k three = of.all i (record { cell = three.cell; there = three.there; face = three.first }) (record { cell = three.cell; there = three.there; face = three.second })
+  listed_at : (i k : ℕ) → HasThree cells i f h k → (x : ℕ) × (x < length list) × (slice_index list x ≡ i) × HasFace cells (slice_index list x) k
+  listed_at i k three =
+      let x = of.all i (record { cell = three.cell; there = three.there; face = three.first }) (record { cell = three.cell; there = three.there; face = three.second }) in
+      (x.0, x.1, x.2, subst (λ j. HasFace cells j k) (sym x.2) (record { cell = three.cell; there = three.there; face = three.third }))
 
-  pub row_done : (n : ℕ) (row : List (Option ℕ)) → length list ≤ n → IsRowTo cells list n f h w row → IsRow cells f h w row
-  row_done n row far r = record { long = r.long; each = λ k a l. by k (row_at row k) (r.each k a l); low = r.low } where
-    by : (k : ℕ) (o : Option ℕ) → IsFirstOf cells list n f h k o → IsFirst cells f h k o
-    by k None none = λ i three. (let x = listed_at i k three in let l = x.1 in none x.0 (omega (arith, l, far)) (subst (λ j. HasThree cells j f h k) (sym x.2) three))
+  pub row_done : (w : ℕ) (row : List (Option ℕ)) → IsRowTo cells list (length list) h w row → IsRow cells f h w row
+  row_done w row r = record { long = r.long; each = λ k a l. by k (row_at row k) (r.each k a l); low = r.low } where
+    by : (k : ℕ) (o : Option ℕ) → IsFirstOf cells list (length list) k o → IsFirst cells f h k o
+    by k None none = λ i three. (let x = listed_at i k three in none x.0 x.1 x.3)
     by k (Some i) (at, has, before) = (
-      has,
-      λ j less three. (let x = listed_at j k three in let l = x.1 in
-          let e = x.2 in before x.0 (omega (arith, l, far)) (omega (arith, e, less)) (subst (λ j. HasThree cells j f h k) (sym x.2) three)),
+      (let both = of.each at.0 at.1 in three_of i k (subst (λ j. HasFace cells j f) at.2 both.0) (subst (λ j. HasFace cells j h) at.2 both.1) has),
+      λ j less three. (let x = listed_at j k three in let e = x.2 in before x.0 x.1 (omega (arith, e, less)) x.3),
     )

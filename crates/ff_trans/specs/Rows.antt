@@ -1,7 +1,6 @@
 -- How the triples are found: for each pair the faces above it that share a cell with both.
 -- For the proofs of this crate alone.
-use Rattle.std.specs.Prelude.{◌≡◌, ℕ, ◌+◌, ◌<◌, ◌≤◌, true, ◌⊎◌, List, [], ◌∷◌, ◌++◌, map, Vec, length, slice_get, slice_index, slice_index_or, Option, Some, None}
-use Rattle.std.specs.declared.alloc.Global.{Global}
+use Rattle.std.specs.Prelude.{◌≡◌, ℕ, ◌+◌, ◌<◌, ◌≤◌, true, ◌⊎◌, List, [], ◌∷◌, ◌++◌, length, slice_get, slice_index, slice_index_or, Option, Some, None}
 use Rattle.std.specs.List.{Contains}
 use Rattle.ff_basics.specs.NumberedLists.{list_at}
 use Rattle.ff_types.specs.declared.cites.Cite.TheVariants.{Transitivity}
@@ -26,10 +25,15 @@ pub record AreCellsOf (cells : List Cell) (n f : ℕ) (list : List ℕ) : Type 0
   pub each : (x : ℕ) → x < length list → (slice_index list x < n) × HasFace cells (slice_index list x) f
   pub all : (i : ℕ) → i < n → HasFace cells i f → (x : ℕ) × (x < length list) × (slice_index list x ≡ i)
 
--- cells, in order, among which are those that have both faces
-pub record HoldBoth (cells : List Cell) (f h : ℕ) (list : List ℕ) : Type 0 where
+-- numbers of cells, in order
+pub record AreNumbered (cells : List Cell) (list : List ℕ) : Type 0 where
   pub rising : (x y : ℕ) → x < y → y < length list → slice_index list x < slice_index list y
   pub within : (x : ℕ) → x < length list → slice_index list x < length cells
+
+-- the cells that have both faces, in order
+pub record HoldBoth (cells : List Cell) (f h : ℕ) (list : List ℕ) : Type 0 where
+  pub rising : (x y : ℕ) → x < y → y < length list → slice_index list x < slice_index list y
+  pub each : (x : ℕ) → x < length list → HasFace cells (slice_index list x) f × HasFace cells (slice_index list x) h
   pub all : (i : ℕ) → HasFace cells i f → HasFace cells i h → (x : ℕ) × (x < length list) × (slice_index list x ≡ i)
 
 -- so it is for each face below w
@@ -37,11 +41,37 @@ pub record AreIndexed (cells : List Cell) (n w : ℕ) (lists : List (List ℕ)) 
   pub long : length lists ≡ w
   pub each : (f : ℕ) → f < w → AreCellsOf cells n f (list_at lists f)
 
--- the cell has joined the lists of the first n of the faces, and no others
-pub record IsPut (faces : List ℕ) (n cell : ℕ) (old new : List (List ℕ)) : Type 0 where
+-- the cell has joined the lists of the faces from one place to before another, and no others
+pub record IsPut (faces : List ℕ) (from n cell : ℕ) (old new : List (List ℕ)) : Type 0 where
   pub long : length new ≡ length old
-  pub put : (j : ℕ) → j < n → list_at new (slice_index faces j) ≡ list_at old (slice_index faces j) ++ cell ∷ []
-  pub same : (f : ℕ) → ((j : ℕ) → j < n → slice_index faces j ≡ f → ⊥) → list_at new f ≡ list_at old f
+  pub put : (j : ℕ) → from ≤ j → j < n → list_at new (slice_index faces j) ≡ list_at old (slice_index faces j) ++ cell ∷ []
+  pub same : (f : ℕ) → ((j : ℕ) → from ≤ j → j < n → slice_index faces j ≡ f → ⊥) → list_at new f ≡ list_at old f
+
+-- the place from which on the faces are above f
+pub record IsPlaceAbove (faces : List ℕ) (f from : ℕ) : Type 0 where
+  pub low : (j : ℕ) → j < from → slice_index faces j ≤ f
+  pub high : (j : ℕ) → from ≤ j → j < length faces → f < slice_index faces j
+
+-- the cell has joined the lists of the faces above f
+abbrev pub IsPutAbove : List ℕ → ℕ → ℕ → List (List ℕ) → List (List ℕ) → Type 0
+IsPutAbove faces f cell old new = (from : ℕ) × IsPlaceAbove faces f from × IsPut faces from (length faces) cell old new
+
+-- those of the first n cells of the list that have the face, in order
+pub record AreAmong (cells : List Cell) (list : List ℕ) (n h : ℕ) (some : List ℕ) : Type 0 where
+  pub rising : (x y : ℕ) → x < y → y < length some → slice_index some x < slice_index some y
+  pub each : (x : ℕ) → x < length some
+      → ((y : ℕ) × (y < n) × (slice_index list y ≡ slice_index some x)) × HasFace cells (slice_index some x) h
+  pub all : (y : ℕ) → y < n → HasFace cells (slice_index list y) h → (x : ℕ) × (x < length some) × (slice_index some x ≡ slice_index list y)
+
+-- so it is for each face above f and below w
+pub record AreSharedTo (cells : List Cell) (list : List ℕ) (n f w : ℕ) (lists : List (List ℕ)) : Type 0 where
+  pub long : length lists ≡ w
+  pub each : (h : ℕ) → f < h → h < w → AreAmong cells list n h (list_at lists h)
+
+-- for each face above f and below w the cells that have both
+pub record AreShared (cells : List Cell) (f w : ℕ) (lists : List (List ℕ)) : Type 0 where
+  pub long : length lists ≡ w
+  pub each : (h : ℕ) → f < h → h < w → HoldBoth cells f h (list_at lists h)
 
 -- the entry of a row
 abbrev pub row_at : List (Option ℕ) → ℕ → Option ℕ
@@ -59,16 +89,9 @@ pub record IsMarked (faces : List ℕ) (from n cell : ℕ) (old new : List (Opti
   pub only : (k : ℕ) → row_at old k ≡ None
       → (row_at new k ≡ None) ⊎ ((row_at new k ≡ Some cell) × ((j : ℕ) × (from ≤ j) × (j < n) × (slice_index faces j ≡ k)))
 
--- so it is with the faces behind h, if this is one of them; else nothing is marked
+-- so it is with the faces above h
 abbrev pub IsMarkedAbove : List ℕ → ℕ → ℕ → List (Option ℕ) → List (Option ℕ) → Type 0
-IsMarkedAbove faces h cell old new =
-    ((p : ℕ) × (p < length faces) × (slice_index faces p ≡ h) × IsMarked faces (p + 1) (length faces) cell old new)
-    ⊎ ((Contains faces h → ⊥) × (new ≡ old))
-
--- so it is where f is one of them too
-abbrev pub IsMarkedWith : List ℕ → ℕ → ℕ → ℕ → List (Option ℕ) → List (Option ℕ) → Type 0
-IsMarkedWith faces f h cell old new = (Contains faces f × IsMarkedAbove faces h cell old new)
-    ⊎ ((Contains faces f → ⊥) × (new ≡ old))
+IsMarkedAbove faces h cell old new = (from : ℕ) × IsPlaceAbove faces h from × IsMarked faces from (length faces) cell old new
 
 -- no face at `reach` or after has a cell
 pub record IsReach (row : List (Option ℕ)) (reach : ℕ) : Type 0 where
@@ -79,16 +102,16 @@ pub record IsReach (row : List (Option ℕ)) (reach : ℕ) : Type 0 where
 abbrev pub AreSameFrom : ℕ → List (Option ℕ) → List (Option ℕ) → Type 0
 AreSameFrom from old new = (k : ℕ) → from ≤ k → row_at new k ≡ row_at old k
 
--- the first of the first n cells of the list that has all three
-abbrev pub IsFirstOf : List Cell → List ℕ → ℕ → ℕ → ℕ → ℕ → Option ℕ → Type 0
-IsFirstOf cells list n f h k None = (x : ℕ) → x < n → HasThree cells (slice_index list x) f h k → ⊥
-IsFirstOf cells list n f h k (Some i) = ((x : ℕ) × (x < n) × (slice_index list x ≡ i)) × HasThree cells i f h k
-    × ((x : ℕ) → x < n → slice_index list x < i → HasThree cells (slice_index list x) f h k → ⊥)
+-- the first of the first n cells of the list that has the face
+abbrev pub IsFirstOf : List Cell → List ℕ → ℕ → ℕ → Option ℕ → Type 0
+IsFirstOf cells list n k None = (x : ℕ) → x < n → HasFace cells (slice_index list x) k → ⊥
+IsFirstOf cells list n k (Some i) = ((x : ℕ) × (x < n) × (slice_index list x ≡ i)) × HasFace cells i k
+    × ((x : ℕ) → x < n → slice_index list x < i → HasFace cells (slice_index list x) k → ⊥)
 
 -- so it is for each face above h
-pub record IsRowTo (cells : List Cell) (list : List ℕ) (n f h w : ℕ) (row : List (Option ℕ)) : Type 0 where
+pub record IsRowTo (cells : List Cell) (list : List ℕ) (n h w : ℕ) (row : List (Option ℕ)) : Type 0 where
   pub long : length row ≡ w
-  pub each : (k : ℕ) → h < k → k < w → IsFirstOf cells list n f h k (row_at row k)
+  pub each : (k : ℕ) → h < k → k < w → IsFirstOf cells list n k (row_at row k)
   pub low : (k : ℕ) → k ≤ h → row_at row k ≡ None
 
 -- the first of all cells

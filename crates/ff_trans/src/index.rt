@@ -10,7 +10,8 @@ use ff_cells::Cell;
 use ff_tables::NoMemory;
 use std::alloc::Global;
 
-fn empty_lists(alloc: Global, many: usize) -> Result<Vec<Vec<usize>>, NoMemory>
+/// Empty lists for so many faces.
+pub fn empty_lists(alloc: Global, many: usize) -> Result<Vec<Vec<usize>>, NoMemory>
     ensures { IfOk result (λ lists. lists_in lists.items ≡ replicate many []) }
 {
     let mut lists = Vec::with_capacity(alloc, many)?;
@@ -20,8 +21,8 @@ fn empty_lists(alloc: Global, many: usize) -> Result<Vec<Vec<usize>>, NoMemory>
     Ok(lists)
 }
 
-// Puts the cell at the end of the list of the face.
-fn put(lists: &mut [Vec<usize>], face: usize, cell: usize) -> Result<(), NoMemory>
+/// Puts the cell at the end of the list of the face.
+pub fn put(lists: &mut [Vec<usize>], face: usize, cell: usize) -> Result<(), NoMemory>
     requires { face < length lists.old }
     ensures { IfOk result (λ _. lists_in lists.new ≡ slice_set (lists_in lists.old) face (list_at (lists_in lists.old) face ++ cell ∷ [])) }
 {
@@ -34,7 +35,7 @@ fn put(lists: &mut [Vec<usize>], face: usize, cell: usize) -> Result<(), NoMemor
 fn put_cell(lists: &mut [Vec<usize>], faces: &[u32], cell: usize) -> Result<(), NoMemory>
     requires rising { IsStrictlyIncreasing faces.now }
     requires below { All (λ f. f < length lists.old) faces.now }
-    ensures { IfOk result (λ _. IsPut faces.now (length faces.now) cell (lists_in lists.old) (lists_in lists.new)) }
+    ensures { IfOk result (λ _. IsPut faces.now 0 (length faces.now) cell (lists_in lists.old) (lists_in lists.new)) }
 {
     for j in 0..faces.len() {
         put(lists, faces[j] as usize, cell)?;

@@ -7,6 +7,7 @@ mod index;
 mod listed;
 mod marking;
 mod overlaps;
+mod sharing;
 mod taking;
 mod width;
 

@@ -1,5 +1,5 @@
 //! The triples of faces that have a common place.
-ghost use Rattle.std.specs.Prelude.{◌≡◌, ◌<◌, ◌≤◌, ◌+◌, ℕ, List, length, IfOk, IfErr, OnOk};
+ghost use Rattle.std.specs.Prelude.{◌≡◌, ◌<◌, ◌≤◌, ◌+◌, ℕ, true, List, length, IfOk, IfErr, OnOk};
 ghost use Rattle.std.specs.List.{All};
 ghost use Rattle.ff_basics.specs.NumberedLists.{lists_in};
 ghost use Rattle.ff_types.specs.declared.limits.TheConstants.{MOST_FACES as most_faces};
@@ -9,12 +9,13 @@ ghost use Rattle.ff_pairs.specs.Together.{ArePairsOf};
 ghost use Rattle.ff_types.specs.declared.limits.TheConstants.{MOST_CONSTRAINTS as most_constraints};
 ghost use Rattle.ff_trans.specs.Triples.{AreTriples, WhyNoTriples};
 ghost use Rattle.ff_cells.specs.declared.cell.Cell.{Cell as CellRow};
-ghost use Rattle.ff_trans.specs.Rows.{IsFirst, IsRow, HoldBoth, AreIndexed, IsClear, IsReach, AreFoundTo};
+ghost use Rattle.ff_trans.specs.Rows.{IsFirst, IsRow, HoldBoth, AreIndexed, AreShared, IsClear, IsReach, AreFoundTo};
 
 use crate::bounds::most_triples;
 use crate::found::Found;
-use crate::index::index;
+use crate::index::{empty_lists, index};
 use crate::marking::mark_row;
+use crate::sharing::share;
 use crate::taking::take;
 use crate::width::width;
 use ff_cells::Cell;
@@ -78,35 +79,21 @@ fn take_row(
     Ok(())
 }
 
-// The cells of one of the two faces, of the one that has fewer.
-fn shorter(lists: &[Vec<usize>], f: u32, h: u32) -> &[usize]
-    requires first { f < length lists.now }
-    requires second { h < length lists.now }
-    ensures { (cells : List CellRow) → AreIndexed cells (length cells) (length lists.now) (lists_in lists.now) → HoldBoth cells f h result.now }
-{
-    if lists[f as usize].len() < lists[h as usize].len() {
-        lists[f as usize].as_slice()
-    } else {
-        lists[h as usize].as_slice()
-    }
-}
-
-// Takes the triples of the pair with the number `n`.
+// Takes the triples of the pair with the number `n`, where the list has the cells that its faces share.
 fn take_pair(
     found: &mut Found,
     cells: &[Cell],
     pairs: &Pairs,
-    lists: &[Vec<usize>],
+    list: &[usize],
     n: u32,
     row: &mut [Option<usize>],
 ) -> Result<(), No>
     requires few { length row.old ≤ most_faces }
-    requires wide { length lists.now ≡ length row.old }
     requires lists { All IsFaceList cells.now }
     requires below { All (λ c. All (λ f. f < length row.old) c.faces) cells.now }
     requires pairs { ArePairsOf cells.now pairs.now }
     requires pair { n < length pairs.now }
-    requires index { AreIndexed cells.now (length cells.now) (length lists.now) (lists_in lists.now) }
+    requires both { HoldBoth cells.now (pair_at pairs.now n).0 (pair_at pairs.now n).1 list.now }
     requires clear { IsClear row.old }
     requires found { AreFoundTo cells.now pairs.now n 0 found.old }
     ensures found { OnOk result (AreFoundTo cells.now pairs.now (n + 1) 0 found.new) }
@@ -115,9 +102,44 @@ fn take_pair(
     ensures clear { OnOk result (IsClear row.new) }
     ensures refused { IfErr result (WhyNoTriples cells.now pairs.now) }
 {
-    let (f, h) = pairs.faces(n);
-    let reach = mark_row(row, cells, shorter(lists, f, h), f, h);
+    let (_f, h) = pairs.faces(n);
+    let reach = mark_row(row, cells, list, h);
     take_row(found, cells, pairs, n, row, reach)
+}
+
+// Whether the pair before the one with the number `n` has the same first face.
+fn goes_on(pairs: &Pairs, n: u32) -> bool
+    requires { n < length pairs.now }
+    ensures { result ≡ true → (m : ℕ) × (m + 1 ≡ n) × ((pair_at pairs.now m).0 ≡ (pair_at pairs.now n).0) }
+{
+    if n == 0 {
+        return false;
+    }
+    pairs.faces(n - 1).0 == pairs.faces(n).0
+}
+
+// Lists the cells that the first face of the pair with the number `n` shares, where the pair before has another.
+fn share_next(
+    shared: &mut [Vec<usize>],
+    cells: &[Cell],
+    pairs: &Pairs,
+    lists: &[Vec<usize>],
+    n: u32,
+) -> Result<(), NoMemory>
+    requires wide { length lists.now ≡ length shared.old }
+    requires lists { All IsFaceList cells.now }
+    requires below { All (λ c. All (λ f. f < length shared.old) c.faces) cells.now }
+    requires pairs { ArePairsOf cells.now pairs.now }
+    requires pair { n < length pairs.now }
+    requires index { AreIndexed cells.now (length cells.now) (length lists.now) (lists_in lists.now) }
+    requires before { (m : ℕ) → m + 1 ≡ n → AreShared cells.now (pair_at pairs.now m).0 (length lists.now) (lists_in shared.old) }
+    ensures { IfOk result (λ _. AreShared cells.now (pair_at pairs.now n).0 (length lists.now) (lists_in shared.new)) }
+{
+    if goes_on(pairs, n) {
+        return Ok(());
+    }
+    let (f, _h) = pairs.faces(n);
+    share(shared, cells, lists[f as usize].as_slice(), f)
 }
 
 // Takes the triples of all pairs.
@@ -126,10 +148,12 @@ fn take_pairs(
     cells: &[Cell],
     pairs: &Pairs,
     lists: &[Vec<usize>],
+    shared: &mut [Vec<usize>],
     row: &mut [Option<usize>],
 ) -> Result<(), No>
     requires few { length row.old ≤ most_faces }
     requires wide { length lists.now ≡ length row.old }
+    requires shared { length shared.old ≡ length row.old }
     requires lists { All IsFaceList cells.now }
     requires below { All (λ c. All (λ f. f < length row.old) c.faces) cells.now }
     requires pairs { ArePairsOf cells.now pairs.now }
@@ -139,11 +163,14 @@ fn take_pairs(
     ensures found { OnOk result (AreFoundTo cells.now pairs.now (length pairs.now) 0 found.new) }
     ensures keeps { OnOk result (found.new.keeps ≡ found.old.keeps) }
     ensures long { OnOk result (length row.new ≡ length row.old) }
+    ensures shared { OnOk result (length shared.new ≡ length shared.old) }
     ensures clear { OnOk result (IsClear row.new) }
     ensures refused { IfErr result (WhyNoTriples cells.now pairs.now) }
 {
     for n in 0..pairs.count() as u32 {
-        take_pair(found, cells, pairs, lists, n, row)?;
+        share_next(shared, cells, pairs, lists, n)?;
+        let (_f, h) = pairs.faces(n);
+        take_pair(found, cells, pairs, shared[h as usize].as_slice(), n, row)?;
     }
     Ok(())
 }
@@ -168,22 +195,32 @@ fn clear_row(alloc: Global, width: usize) -> Result<Vec<Option<usize>>, NoMemory
     Ok(vec![in alloc; None; width]?)
 }
 
+// A list for each face, without cells.
+fn no_cells(alloc: Global, width: usize) -> Result<Vec<Vec<usize>>, NoMemory>
+    ensures { IfOk result (λ lists. length lists.items ≡ width) }
+{
+    empty_lists(alloc, width)
+}
+
 // Counts the triples, where there may be too many, so that none is made then.
 fn count_first(
     alloc: Global,
     cells: &[Cell],
     pairs: &Pairs,
     lists: &[Vec<usize>],
+    shared: &mut [Vec<usize>],
     row: &mut [Option<usize>],
 ) -> Result<(), No>
     requires few { length row.old ≤ most_faces }
     requires wide { length lists.now ≡ length row.old }
+    requires shared { length shared.old ≡ length row.old }
     requires lists { All IsFaceList cells.now }
     requires below { All (λ c. All (λ f. f < length row.old) c.faces) cells.now }
     requires pairs { ArePairsOf cells.now pairs.now }
     requires index { AreIndexed cells.now (length cells.now) (length lists.now) (lists_in lists.now) }
     requires clear { IsClear row.old }
     ensures long { OnOk result (length row.new ≡ length row.old) }
+    ensures shared { OnOk result (length shared.new ≡ length shared.old) }
     ensures clear { OnOk result (IsClear row.new) }
     ensures refused { IfErr result (WhyNoTriples cells.now pairs.now) }
 {
@@ -191,7 +228,7 @@ fn count_first(
         return Ok(());
     }
     let mut counted = nothing(alloc, false);
-    take_pairs(&mut counted, cells, pairs, lists, row)
+    take_pairs(&mut counted, cells, pairs, lists, shared, row)
 }
 
 // The triples of all pairs, listed once it is known that there aren't too many.
@@ -203,14 +240,23 @@ fn listed_triples(alloc: Global, cells: &[Cell], pairs: &Pairs) -> Result<Listin
     ensures refused { IfErr result (WhyNoTriples cells.now pairs.now) }
 {
     let lists = index(alloc, cells, width(cells))?;
+    let mut shared = no_cells(alloc, lists.len())?;
     let mut row = clear_row(alloc, lists.len())?;
-    count_first(alloc, cells, pairs, lists.as_slice(), row.as_mut_slice())?;
+    count_first(
+        alloc,
+        cells,
+        pairs,
+        lists.as_slice(),
+        shared.as_mut_slice(),
+        row.as_mut_slice(),
+    )?;
     let mut listed = nothing(alloc, true);
     take_pairs(
         &mut listed,
         cells,
         pairs,
         lists.as_slice(),
+        shared.as_mut_slice(),
         row.as_mut_slice(),
     )?;
     Ok(listed.list)

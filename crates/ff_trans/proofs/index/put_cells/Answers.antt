@@ -17,4 +17,4 @@ loop-i-preserved c =
     let at : slice_get cells i ≡ Some cell = slice_get-get_or cells i cell c.loop-i-test.true ∙ ap Some (sym c.index-cells-i.is) in
     let same = c.as_slice.ensures ∙ ap (λ (z : Cell). z.faces) (sym c.index-cells-i.is) in
     index_more cells i (length c.args.lists.now) cell (lists_in c.loop-i.lists) (lists_in c.put_cell.new.lists) at c.loop-i.invariant
-    (subst (λ xs. IsPut xs (length xs) i (lists_in c.loop-i.lists) (lists_in c.put_cell.new.lists)) same c.in_ok-put_cell.ensures)
+    (subst (λ xs. IsPut xs 0 (length xs) i (lists_in c.loop-i.lists) (lists_in c.put_cell.new.lists)) same c.in_ok-put_cell.ensures)

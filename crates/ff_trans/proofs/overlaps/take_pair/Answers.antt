@@ -1,21 +1,19 @@
-use Rattle.std.proofs.Common.{ℕ, ◌<◌, sym, subst, length}
+use Rattle.std.proofs.Common.{ℕ, ◌≡◌, sym, ap, subst, length}
 use Rattle.std.proofs.lemmas.Option.{get_or_from_slice_get}
-use Rattle.ff_trans.specs.Rows.{IsRow}
-use Rattle.ff_trans.proofs.FoundTriples.{pair_below}
+use Rattle.ff_types.specs.Pairs.{pair_at}
+use Rattle.ff_trans.specs.Rows.{IsRow, IsRowTo}
+use Rattle.ff_trans.proofs.Marks.{are_numbered, row_done}
 use Rattle.ff_trans.proofs.overlaps.take_pair.Goals as goal
 
-pub shorter-requires-clause-first : goal.shorter-requires-clause-first
-shorter-requires-clause-first c = subst (λ w. c.faces-f.result.0 < w) (sym c.requires.wide)
-    (pair_below c.args.cells.now c.args.pairs.now c.requires.pairs (length c.args.row.now) c.args.n c.faces-f.result.0 c.faces-f.result.1 c.requires.below c.faces-f.ensures.value).0
-
-pub shorter-requires-clause-second : goal.shorter-requires-clause-second
-shorter-requires-clause-second c = subst (λ w. c.faces-f.result.1 < w) (sym c.requires.wide)
-    (pair_below c.args.cells.now c.args.pairs.now c.requires.pairs (length c.args.row.now) c.args.n c.faces-f.result.0 c.faces-f.result.1 c.requires.below c.faces-f.ensures.value).1
+pub mark_row-reach-requires-clause-numbered : goal.mark_row-reach-requires-clause-numbered
+mark_row-reach-requires-clause-numbered c = are_numbered c.args.cells.now (pair_at c.args.pairs.now c.args.n).0 (pair_at c.args.pairs.now c.args.n).1 c.args.list.now c.requires.both
 
 pub take_row-requires-clause-row : goal.take_row-requires-clause-row
 take_row-requires-clause-row c =
-    let pairs = c.args.pairs.now in let n = c.args.n in
-    let e = get_or_from_slice_get pairs n c.faces-f.result (0, 0) c.faces-f.ensures.value in
+    let cells = c.args.cells.now in let pairs = c.args.pairs.now in let n = c.args.n in let list = c.args.list.now in
+    let e : (pair_at pairs n).1 ≡ c.faces-f.result.1 = ap (λ (z : ℕ × ℕ). z.1) (get_or_from_slice_get pairs n c.faces-f.result (0, 0) c.faces-f.ensures.value) in
+    let new = c.mark_row-reach.new.row in
     let row = c.mark_row-reach.ensures.row in
-    subst (λ (p : ℕ × ℕ). IsRow c.args.cells.now p.0 p.1 (length c.mark_row-reach.new.row) c.mark_row-reach.new.row) (sym e)
-    (subst (λ w. IsRow c.args.cells.now c.faces-f.result.0 c.faces-f.result.1 w c.mark_row-reach.new.row) (sym row.long) row)
+    subst (λ w. IsRow cells (pair_at pairs n).0 (pair_at pairs n).1 w new) (sym row.long)
+    (row_done cells (pair_at pairs n).0 (pair_at pairs n).1 list c.requires.both (length c.args.row.now) new
+    (subst (λ h. IsRowTo cells list (length list) h (length c.args.row.now) new) (sym e) row))
