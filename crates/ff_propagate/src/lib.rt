@@ -15,6 +15,7 @@ mod words;
 
 pub use closing::{close, givens_fit};
 pub use facts::{ClashAt, Closed, Fact, Facts, Reason};
+pub use giving::give;
 pub use laws::{
     assignments_hold_the_closure, contradictions_clash, dead_facts_clash, facts_are_in_the_closure,
     further_facts_keep_the_rule, quiet_facts_are_the_closure,

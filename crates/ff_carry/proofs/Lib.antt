@@ -1,0 +1,6 @@
+mod Trials
+mod Kept
+mod Firsts
+mod Chains
+mod Orders
+mod Carries

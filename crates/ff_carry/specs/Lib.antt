@@ -1,0 +1,5 @@
+pub mod Trying
+pub mod Carrying
+pub mod Keeping
+pub mod Laws
+pub mod Ends
