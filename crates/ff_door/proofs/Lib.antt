@@ -1,0 +1,6 @@
+mod Turns
+mod Gathering
+mod Rows
+mod Sound
+mod Ends
+mod Made
