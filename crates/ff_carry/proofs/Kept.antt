@@ -13,7 +13,8 @@ use Rattle.ff_propagate.specs.Facts.{fact_at, IsKnownBelow}
 use Rattle.ff_propagate.specs.FactRule.{IsForcedBelow, MeetsFactRule, StandsBy}
 use Rattle.ff_carry.specs.declared.placing.Placed.{Placed}
 use Rattle.ff_carry.specs.Carrying.{IsKept}
-use Rattle.ff_carry.specs.Keeping.{IsOrder, Keeps, IsKeeping, AreKept}
+use Rattle.ff_carry.specs.Keeping.{Keeps, IsKeeping, AreKept}
+use Rattle.ff_carry.specs.Placing.{IsOrder}
 
 -- more that is known of lower levels
 forced_more : (cons : List Constraint) (fs xs : List (Option Fact)) (c k v : ℕ) (s : _) → ((u : ℕ) (g : Fact) → g.level < k → fact_at fs u ≡ Some g → fact_at xs u ≡ Some g) → IsForcedBelow cons fs c k v s → IsForcedBelow cons xs c k v s

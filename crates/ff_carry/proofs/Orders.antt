@@ -13,7 +13,7 @@ use Rattle.ff_propagate.specs.declared.facts.Fact.{Fact}
 use Rattle.ff_propagate.specs.Facts.{fact_at}
 use Rattle.ff_carry.specs.contracts.placing.PlacedOrd.TheImpl as order
 use Rattle.ff_carry.specs.declared.placing.Placed.{Placed}
-use Rattle.ff_carry.specs.Keeping.{IsPlace, ArePlaced, AreByLevel, IsOrder}
+use Rattle.ff_carry.specs.Placing.{IsPlace, ArePlaced, AreByLevel, IsOrder}
 use Rattle.ff_carry.proofs.Kept.{same_fact, some_none, inside}
 
 -- ---- one variable more

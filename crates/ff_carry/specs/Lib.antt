@@ -3,3 +3,4 @@ pub mod Carrying
 pub mod Keeping
 pub mod Laws
 pub mod Ends
+pub mod Placing

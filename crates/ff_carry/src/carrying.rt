@@ -4,7 +4,8 @@ ghost use Rattle.ff_tables.specs.Systems.{AreFit};
 ghost use Rattle.ff_propagate.specs.Closing.{GivensFit};
 ghost use Rattle.ff_propagate.specs.FactRule.{MeetsFactRule};
 ghost use Rattle.ff_propagate.specs.Giving.{HasGivens};
-ghost use Rattle.ff_carry.specs.Keeping.{IsOrder, HaveReasons};
+ghost use Rattle.ff_carry.specs.Keeping.{HaveReasons};
+ghost use Rattle.ff_carry.specs.Placing.{IsOrder};
 ghost use Rattle.ff_carry.specs.Ends.{CarriesTo, Fills, Opens};
 
 use crate::keeping::keep_all;

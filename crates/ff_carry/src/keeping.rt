@@ -3,7 +3,8 @@ ghost use Rattle.std.specs.Prelude.{◌≡◌, ℕ, ◌+◌, ◌<◌, ◌≤◌,
 ghost use Rattle.ff_tables.specs.Systems.{AreFit};
 ghost use Rattle.ff_propagate.specs.declared.facts.Fact.{Fact as FactSpec};
 ghost use Rattle.ff_propagate.specs.Facts.{fact_at};
-ghost use Rattle.ff_carry.specs.Keeping.{IsOrder, HaveReasons, Keeps, IsKeeping, AreKept};
+ghost use Rattle.ff_carry.specs.Keeping.{HaveReasons, Keeps, IsKeeping, AreKept};
+ghost use Rattle.ff_carry.specs.Placing.{IsOrder};
 
 use crate::forcing::forces;
 use crate::placing::Placed;

@@ -9,3 +9,4 @@ mod placing;
 
 pub use carrying::{Opened, carry};
 pub use laws::{carried_facts_meet_the_rule, chains_are_kept};
+pub use placing::{Placed, order_of};

@@ -1,7 +1,7 @@
 //! Facts in order of their levels.
 ghost use Rattle.std.specs.Prelude.{◌≡◌, ◌+◌, ◌<◌, ◌≤◌, length, IfOk};
 ghost use Rattle.std.specs.List.Sorted.{IsPermutation};
-ghost use Rattle.ff_carry.specs.Keeping.{ArePlaced, IsOrder, AreByLevel};
+ghost use Rattle.ff_carry.specs.Placing.{ArePlaced, IsOrder, AreByLevel};
 
 use ff_propagate::Facts;
 use ff_tables::NoMemory;
@@ -9,9 +9,9 @@ use std::alloc::Global;
 
 /// Where a fact stands: its level, and its variable.
 #[derive(Clone, Copy, Debug, PartialEq, Eq, PartialOrd, Ord)]
-pub(crate) struct Placed {
-    pub(crate) level: u32,
-    pub(crate) var: u32,
+pub struct Placed {
+    pub level: u32,
+    pub var: u32,
 }
 
 // Puts the place of the variable's fact, if it has one, at the end.
@@ -53,7 +53,7 @@ fn sort(list: &mut [Placed])
 }
 
 /// The places of the facts, in order of level.
-pub(crate) fn order_of(alloc: Global, old: &Facts, vars: u32) -> Result<Vec<Placed>, NoMemory>
+pub fn order_of(alloc: Global, old: &Facts, vars: u32) -> Result<Vec<Placed>, NoMemory>
     requires { length old.now ≡ vars }
     ensures { IfOk result (λ order. IsOrder old.now order.items) }
 {

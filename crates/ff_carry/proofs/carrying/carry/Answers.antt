@@ -2,7 +2,7 @@ use Rattle.std.proofs.Common.{◌≡◌, ◌<◌, ◌^◌, ℕ, sym, subst, leng
 use Rattle.ff_tables.specs.declared.givens.Given.{Given}
 use Rattle.ff_propagate.specs.Closing.{GivensFit}
 use Rattle.ff_carry.specs.Ends.{CarriesTo}
-use Rattle.ff_carry.specs.Keeping.{IsOrder}
+use Rattle.ff_carry.specs.Placing.{IsOrder}
 use Rattle.ff_carry.proofs.Carries.{have_reasons}
 use Rattle.ff_carry.proofs.carrying.carry.Goals as goal
 

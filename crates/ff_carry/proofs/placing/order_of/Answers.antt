@@ -2,7 +2,7 @@ use Rattle.std.proofs.Common.{◌≡◌, ◌++◌, ℕ, List, length, take, drop
 use Rattle.std.proofs.lemmas.Grind.{common_steps}
 use Rattle.std.specs.List.Sorted.{IsPermutation}
 use Rattle.ff_carry.specs.declared.placing.Placed.{Placed}
-use Rattle.ff_carry.specs.Keeping.{IsOrder}
+use Rattle.ff_carry.specs.Placing.{IsOrder}
 use Rattle.ff_carry.proofs.Orders.{in_order}
 use Rattle.ff_carry.proofs.placing.order_of.Goals as goal
 

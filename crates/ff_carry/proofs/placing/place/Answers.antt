@@ -1,5 +1,5 @@
 use Rattle.std.proofs.Common.{◌≡◌, ◌+◌, ◌++◌, ◌∷◌, [], ℕ, List, sym, subst}
-use Rattle.ff_carry.specs.Keeping.{ArePlaced}
+use Rattle.ff_carry.specs.Placing.{ArePlaced}
 use Rattle.ff_carry.proofs.Orders.{placed_some, placed_none}
 use Rattle.ff_carry.proofs.placing.place.Goals as goal
 

@@ -1,4 +1,4 @@
-use Rattle.ff_carry.specs.Keeping.{ArePlaced}
+use Rattle.ff_carry.specs.Placing.{ArePlaced}
 use Rattle.ff_carry.proofs.placing.places.Given as goal
 
 abbrev pub invariant-loop-var : goal.invariant-loop-var
