@@ -6,3 +6,5 @@ mod Good
 mod SeenEdges
 mod SortedEdges
 mod Texts
+mod Members
+mod OneCheck

@@ -31,24 +31,24 @@ get_view [] i v l e = absurd (omega (arith, l))
 get_view (w ∷ vs) zero v l e = rw e refl
 get_view (w ∷ vs) (suc i) v l e = get_view vs i v (omega (arith, l)) e
 
-more : {A : Type 0} (f : Data → Option A) (xs : List A) (a : A) → (o : Option (List A)) (p : Option (List A)) (b : A)
+more : {B A : Type 0} (f : B → Option A) (xs : List A) (a : A) → (o : Option (List A)) (p : Option (List A)) (b : A)
     → ((ys : List A) → o ≡ Some ys → p ≡ Some (ys ++ a ∷ [])) → option_map (λ rest. b ∷ rest) o ≡ Some xs → option_map (λ rest. b ∷ rest) p ≡ Some (xs ++ a ∷ [])
 more f xs a None p b h e = absurd (none-some xs e)
 more f xs a (Some ys) p b h e = ap (option_map (λ rest. b ∷ rest)) (h ys refl) ∙ ap (λ zs. Some (zs ++ a ∷ [])) (same_Some (b ∷ ys) xs e)
 
-more_at : {A : Type 0} (f : Data → Option A) (xs : List A) (a : A) (o p : Option (List A)) (b : Option A)
+more_at : {B A : Type 0} (f : B → Option A) (xs : List A) (a : A) (o p : Option (List A)) (b : Option A)
     → ((ys : List A) → o ≡ Some ys → p ≡ Some (ys ++ a ∷ [])) → option_and_then (λ c. option_map (λ rest. c ∷ rest) o) b ≡ Some xs → option_and_then (λ c. option_map (λ rest. c ∷ rest) p) b ≡ Some (xs ++ a ∷ [])
 more_at f xs a o p None h e = absurd (none-some xs e)
 more_at f xs a o p (Some b) h e = more f xs a o p b h e
 
-suc_more : {A : Type 0} (f : Data → Option A) (ds : List Data) (i : ℕ) (xs : List A) (d : Data) (a : A)
+suc_more : {B A : Type 0} (f : B → Option A) (ds : List B) (i : ℕ) (xs : List A) (d : B) (a : A)
     → all_of f (take i ds) ≡ Some xs → slice_get ds i ≡ Some d → f d ≡ Some a → all_of f (take (suc i) ds) ≡ Some (xs ++ a ∷ [])
 suc_more f [] i xs d a e g h = absurd (none-some d g)
 suc_more f (c ∷ ds) zero xs d a e g h = rw (same_Some c d g, h, ← same_Some [] xs e) refl
 suc_more f (c ∷ ds) (suc i) xs d a e g h = more_at f xs a (all_of f (take i ds)) (all_of f (take (suc i) ds)) (f c) (λ ys s. suc_more f ds i ys d a s g h) e
 
 -- one item more
-pub all_of-more : {A : Type 0} (f : Data → Option A) (ds : List Data) (i : ℕ) (xs : List A) (d : Data) (a : A)
+pub all_of-more : {B A : Type 0} (f : B → Option A) (ds : List B) (i : ℕ) (xs : List A) (d : B) (a : A)
     → all_of f (take i ds) ≡ Some xs → slice_get ds i ≡ Some d → Some a ≡ f d → all_of f (take (i + 1) ds) ≡ Some (xs ++ a ∷ [])
 all_of-more f ds i xs d a e g h =
     let next : suc i ≡ i + 1 = omega arith in
@@ -65,7 +65,7 @@ longer_at : {A : Type 0} (o : Option (List A)) (b : Option A) (xs : List A) (n :
 longer_at o None xs n h e = absurd (none-some xs e)
 longer_at o (Some b) xs n h e = one_longer o b xs n h e
 
-pub as_many : {A : Type 0} (f : Data → Option A) (ds : List Data) (xs : List A) → all_of f ds ≡ Some xs → length xs ≡ length ds
+pub as_many : {B A : Type 0} (f : B → Option A) (ds : List B) (xs : List A) → all_of f ds ≡ Some xs → length xs ≡ length ds
 as_many f [] xs e = ap length (sym (same_Some [] xs e))
 as_many f (d ∷ ds) xs e = longer_at (all_of f ds) (f d) xs (length ds) (λ ys s. as_many f ds ys s) e
 

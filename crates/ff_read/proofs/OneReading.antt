@@ -17,12 +17,9 @@ use Rattle.ff_read.specs.Refused.{IsSameEdge, RefusesKey, RefusesItems, RefusesF
 use Rattle.ff_read.specs.Read.{IsReadAs, RefusesBytes}
 use Rattle.ff_read.specs.Readings.{ReadingIsOne}
 use Rattle.ff_read.proofs.Good.{is_pattern}
-use Rattle.ff_read.proofs.Outcomes.{PointsOut, one_out, some_out}
+use Rattle.ff_read.proofs.Outcomes.{PointsOut, one_out, one_value, some_out}
 
-one_value : {A : Type 0} (o : Option A) (a b : A) → o ≡ Some a → o ≡ Some b → a ≡ b
-one_value o a b e f = same_Some a b (sym e ∙ f)
-
-no_value : {A : Type 0} (o : Option A) (a : A) → o ≡ None → o ≡ Some a → ⊥
+pub no_value : {A : Type 0} (o : Option A) (a : A) → o ≡ None → o ≡ Some a → ⊥
 no_value o a e f = none-some a (sym e ∙ f)
 
 -- ---- the items
@@ -32,7 +29,7 @@ same_twice : (p : Pattern) (k e : ℕ) → k < e → e < length p.edges → IsSa
 same_twice p k e l m (inl s) = omega (arith, l, p.valid.once k e (omega (arith, l, m)) m s.0 s.1)
 same_twice p k e l m (inr s) = p.valid.once_back k e (omega (arith, l, m)) m s.0 s.1
 
-spelled_out : (k : Keys) (p : Pattern) → AreSpelled k p → PointsOut k None
+pub spelled_out : (k : Keys) (p : Pattern) → AreSpelled k p → PointsOut k None
 spelled_out k p s = inr (inr (
   p.points,
   record { spelled = s.points; near = p.valid.near },
@@ -43,7 +40,7 @@ spelled_out k p s = inr (inr (
   ),
 ))
 
-refused_out : (k : Keys) (r : Refusal) → RefusesItems k r → PointsOut k (Some r)
+pub refused_out : (k : Keys) (r : Refusal) → RefusesItems k r → PointsOut k (Some r)
 refused_out k (BadVertex v) h = inl (v, h, refl)
 refused_out k (FarVertex v) h = inr (inl (h.0, v, h.1, h.2, refl))
 refused_out k (BadEdge e) h = inr (inr (h.0, h.1, inl (e, h.2, refl)))
@@ -66,7 +63,7 @@ as_many_marks : (n : ℕ) (o : Option Data) (ms : Option (List Data)) → option
 as_many_marks n None ms e ds f = absurd (none-some ds (same_Some None ms e ∙ f))
 as_many_marks n (Some a) ms e ds f = many_in n (list_of a) ds ms e f
 
-same_keys : (d : Data) (k l : Keys) → IsKeyed d k → IsKeyed d l → k ≡ l
+pub same_keys : (d : Data) (k l : Keys) → IsKeyed d k → IsKeyed d l → k ≡ l
 same_keys d k l g h =
     let vs = one_value (vertices_in d) k.vertices l.vertices g.vertices h.vertices in
     let es = one_value (edges_in d) k.edges l.edges g.edges h.edges in
@@ -74,7 +71,7 @@ same_keys d k l g h =
     let ms = one_value (marks_in (length l.edges) d) k.marks l.marks marked h.marks in
     λ i. record { vertices = vs i; edges = es i; marks = ms i }
 
-one_key : (d : Data) (a b : Key) → RefusesKey d a → RefusesKey d b → a ≡ b
+pub one_key : (d : Data) (a b : Key) → RefusesKey d a → RefusesKey d b → a ≡ b
 one_key d VerticesCoords VerticesCoords g h = refl
 one_key d VerticesCoords EdgesVertices g h = absurd (no_value (vertices_in d) h.0 g h.1)
 one_key d VerticesCoords EdgesAssignment g h = absurd (no_value (vertices_in d) h.0 g h.2)
@@ -90,7 +87,7 @@ one_key d Log b g h = absurd g
 one_key d Viewers b g h = absurd g
 one_key d a b g h = absurd h
 
-key_or_keys : (d : Data) (key : Key) (k : Keys) → RefusesKey d key → IsKeyed d k → ⊥
+pub key_or_keys : (d : Data) (key : Key) (k : Keys) → RefusesKey d key → IsKeyed d k → ⊥
 key_or_keys d VerticesCoords k g h = no_value (vertices_in d) k.vertices g h.vertices
 key_or_keys d EdgesVertices k g h = no_value (edges_in d) k.edges g.2 h.edges
 key_or_keys d EdgesAssignment k g h =
@@ -111,7 +108,7 @@ with_vertices d None v none keys = none VerticesCoords v
 with_vertices d (Some vs) v none keys = with_edges d vs (edges_in d) v refl none keys
 
 -- the keys, or the first that is wrong
-keys_out : (d : Data) → ((key : Key) → RefusesKey d key → ⊥) → ((k : Keys) → IsKeyed d k → ⊥) → ⊥
+pub keys_out : (d : Data) → ((key : Key) → RefusesKey d key → ⊥) → ((k : Keys) → IsKeyed d k → ⊥) → ⊥
 keys_out d none keys = with_vertices d (vertices_in d) refl none keys
 
 -- ---- an object
@@ -185,7 +182,7 @@ marks_come d k h r (inr (inr (ps, a, inr (es, b, inr (ms, c, inr (inr e)))))) pa
     let valid = is_pattern k.vertices k.edges k.marks ps es ms a b (as_many_marks (length k.edges) (get (codes "edges_assignment") d) k.marks h.marks) c e.0 e.1 in
     pattern (record { points = ps; edges = es; marks = ms; valid = valid }) (record { keys = k; keyed = h; spelled = record { points = a.spelled; edges = b.spelled; marks = c } })
 
-object_out : (d : Data) → ((p : Pattern) → Spells d p → ⊥) → ((r : Refusal) → RefusesFold d r → ⊥) → ⊥
+pub object_out : (d : Data) → ((p : Pattern) → Spells d p → ⊥) → ((r : Refusal) → RefusesFold d r → ⊥) → ⊥
 object_out d pattern refused = keys_out d (λ key h. refused (BadKey key) h) (λ k h. some_out k (λ r o. marks_come d k h r o pattern refused))
 
 -- ---- bytes

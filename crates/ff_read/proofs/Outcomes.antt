@@ -42,27 +42,27 @@ PointsOut k r =
 
 -- ---- what a list spells, item by item
 
-one_value : {A : Type 0} (o : Option A) (a b : A) → o ≡ Some a → o ≡ Some b → a ≡ b
+pub one_value : {A : Type 0} (o : Option A) (a b : A) → o ≡ Some a → o ≡ Some b → a ≡ b
 one_value o a b e f = same_Some a b (sym e ∙ f)
 
 -- the first item and the rest
-Begins : {A : Type 0} → (Data → Option A) → Data → List Data → List A → Type 0
+Begins : {B A : Type 0} → (B → Option A) → B → List B → List A → Type 0
 Begins {A = A} f d ds xs = (a : A) × (rest : List A) × (f d ≡ Some a) × (all_of f ds ≡ Some rest) × (xs ≡ a ∷ rest)
 
-begins_rest : {A : Type 0} (f : Data → Option A) (d : Data) (ds : List Data) (xs : List A) (a : A) (o : Option (List A)) → f d ≡ Some a → all_of f ds ≡ o → option_map (λ rest. a ∷ rest) o ≡ Some xs → Begins f d ds xs
+begins_rest : {B A : Type 0} (f : B → Option A) (d : B) (ds : List B) (xs : List A) (a : A) (o : Option (List A)) → f d ≡ Some a → all_of f ds ≡ o → option_map (λ rest. a ∷ rest) o ≡ Some xs → Begins f d ds xs
 unfolding Begins
 begins_rest f d ds xs a None e g h = absurd (none-some xs h)
 begins_rest f d ds xs a (Some rest) e g h = (a, rest, e, g, sym (same_Some (a ∷ rest) xs h))
 
-begins_at : {A : Type 0} (f : Data → Option A) (d : Data) (ds : List Data) (xs : List A) (o : Option A) → f d ≡ o → option_and_then (λ a. option_map (λ rest. a ∷ rest) (all_of f ds)) o ≡ Some xs → Begins f d ds xs
+begins_at : {B A : Type 0} (f : B → Option A) (d : B) (ds : List B) (xs : List A) (o : Option A) → f d ≡ o → option_and_then (λ a. option_map (λ rest. a ∷ rest) (all_of f ds)) o ≡ Some xs → Begins f d ds xs
 begins_at f d ds xs None e h = absurd (none-some xs h)
 begins_at f d ds xs (Some a) e h = begins_rest f d ds xs a (all_of f ds) e refl h
 
-begins : {A : Type 0} (f : Data → Option A) (d : Data) (ds : List Data) (xs : List A) → all_of f (d ∷ ds) ≡ Some xs → Begins f d ds xs
+begins : {B A : Type 0} (f : B → Option A) (d : B) (ds : List B) (xs : List A) → all_of f (d ∷ ds) ≡ Some xs → Begins f d ds xs
 begins f d ds xs h = begins_at f d ds xs (f d) refl h
 
 -- item i spells item i
-spells_at : {A : Type 0} (f : Data → Option A) (us : List Data) (xs : List A) (i : ℕ) (d : Data) (z : A) → all_of f us ≡ Some xs → slice_get us i ≡ Some d → (f d ≡ Some (get_or xs i z)) × (i < length xs)
+spells_at : {B A : Type 0} (f : B → Option A) (us : List B) (xs : List A) (i : ℕ) (d : B) (z : A) → all_of f us ≡ Some xs → slice_get us i ≡ Some d → (f d ≡ Some (get_or xs i z)) × (i < length xs)
 unfolding Begins
 spells_at f [] xs i d z e g = absurd (none-some d g)
 spells_at f (u ∷ us) xs zero d z e g = let b = begins f u us xs e in rw (b.4, ← same_Some u d g) (b.2, omega arith)
@@ -72,7 +72,7 @@ spells_at f (u ∷ us) xs (suc i) d z e g =
     rw b.4 (r.0, omega (arith, r.1))
 
 -- a front spells a front
-front_spells : {A : Type 0} (f : Data → Option A) (us : List Data) (xs : List A) (i : ℕ) (ys : List A) → all_of f us ≡ Some xs → all_of f (take i us) ≡ Some ys → ys ≡ take i xs
+front_spells : {B A : Type 0} (f : B → Option A) (us : List B) (xs : List A) (i : ℕ) (ys : List A) → all_of f us ≡ Some xs → all_of f (take i us) ≡ Some ys → ys ≡ take i xs
 unfolding Begins
 front_spells f [] xs zero ys e h = sym (same_Some [] ys h)
 front_spells f [] xs (suc i) ys e h = rw (← same_Some [] xs e, ← same_Some [] ys h) refl
@@ -102,19 +102,19 @@ take_take (x ∷ xs) (suc i) (suc j) l = ap (λ zs. x ∷ zs) (take_take xs i j 
 
 -- ---- no two outcomes
 
-not_bad : {A : Type 0} (f : Data → Option A) (us : List Data) (xs : List A) (i : ℕ) (d : Data) → all_of f us ≡ Some xs → slice_get us i ≡ Some d → f d ≡ None → ⊥
+not_bad : {B A : Type 0} (f : B → Option A) (us : List B) (xs : List A) (i : ℕ) (d : B) → all_of f us ≡ Some xs → slice_get us i ≡ Some d → f d ≡ None → ⊥
 unfolding Begins
 not_bad f [] xs i d e g h = none-some d g
 not_bad f (u ∷ us) xs zero d e g h = let b = begins f u us xs e in none-some b.0 (sym h ∙ ap f (sym (same_Some u d g)) ∙ b.2)
 not_bad f (u ∷ us) xs (suc i) d e g h = let b = begins f u us xs e in not_bad f us b.1 i d b.3 g h
 
-bad_or_all : {A : Type 0} (f : Data → Option A) (ds : List Data) (i : ℕ) (xs : List A) → IsFirstBad f ds i → all_of f ds ≡ Some xs → ⊥
+pub bad_or_all : {B A : Type 0} (f : B → Option A) (ds : List B) (i : ℕ) (xs : List A) → IsFirstBad f ds i → all_of f ds ≡ Some xs → ⊥
 bad_or_all f ds i xs b e = not_bad f ds xs i b.item e b.is b.bad
 
-bad_before : {A : Type 0} (f : Data → Option A) (ds : List Data) (i j : ℕ) → IsFirstBad f ds i → IsFirstBad f ds j → i < j → ⊥
+bad_before : {B A : Type 0} (f : B → Option A) (ds : List B) (i j : ℕ) → IsFirstBad f ds i → IsFirstBad f ds j → i < j → ⊥
 bad_before f ds i j b c l = not_bad f (take j ds) c.front i b.item c.before (get_take ds i j l ∙ b.is) b.bad
 
-one_bad : {A : Type 0} (f : Data → Option A) (ds : List Data) (i j : ℕ) → IsFirstBad f ds i → IsFirstBad f ds j → (i < j) ⊎ ((i ≡ j) ⊎ (j < i)) → i ≡ j
+pub one_bad : {B A : Type 0} (f : B → Option A) (ds : List B) (i j : ℕ) → IsFirstBad f ds i → IsFirstBad f ds j → (i < j) ⊎ ((i ≡ j) ⊎ (j < i)) → i ≡ j
 one_bad f ds i j b c (inl l) = absurd (bad_before f ds i j b c l)
 one_bad f ds i j b c (inr (inl e)) = e
 one_bad f ds i j b c (inr (inr l)) = absurd (bad_before f ds j i c b l)
@@ -221,12 +221,12 @@ one_out k r s (inr (inr a)) (inr (inr b)) = one_edges k a.0 b.0 r s (one_value (
 -- ---- one outcome at least, by what can't be
 
 -- an item and then the rest
-or_rest : {A : Type 0} (f : Data → Option A) (d : Data) (ds : List Data) (a : A) → f d ≡ Some a → ((xs : List A) × (all_of f ds ≡ Some xs)) ⊎ ((i : ℕ) × IsFirstBad f ds i)
+or_rest : {B A : Type 0} (f : B → Option A) (d : B) (ds : List B) (a : A) → f d ≡ Some a → ((xs : List A) × (all_of f ds ≡ Some xs)) ⊎ ((i : ℕ) × IsFirstBad f ds i)
     → ((xs : List A) × (all_of f (d ∷ ds) ≡ Some xs)) ⊎ ((i : ℕ) × IsFirstBad f (d ∷ ds) i)
 or_rest f d ds a e (inl o) = inl (a ∷ o.0, rw (e, o.1) refl)
 or_rest f d ds a e (inr o) = inr (suc o.0, record { item = o.1.item; is = o.1.is; bad = o.1.bad; front = a ∷ o.1.front; before = rw (e, o.1.before) refl })
 
-or_first : {A : Type 0} (f : Data → Option A) (d : Data) (ds : List Data) (o : Option A) → f d ≡ o → ((xs : List A) × (all_of f ds ≡ Some xs)) ⊎ ((i : ℕ) × IsFirstBad f ds i)
+or_first : {B A : Type 0} (f : B → Option A) (d : B) (ds : List B) (o : Option A) → f d ≡ o → ((xs : List A) × (all_of f ds ≡ Some xs)) ⊎ ((i : ℕ) × IsFirstBad f ds i)
     → ((xs : List A) × (all_of f (d ∷ ds) ≡ Some xs)) ⊎ ((i : ℕ) × IsFirstBad f (d ∷ ds) i)
 or_first f d ds None e rest = inr (0, record { item = d; is = refl; bad = e; front = []; before = refl })
 or_first f d ds (Some a) e rest = or_rest f d ds a e rest
@@ -245,7 +245,7 @@ next_spelled ds j xs d new s g e =
     let next : j + 1 ≡ suc j = omega arith in
     subst (λ (n : ℕ). all_of ends_of (take n ds) ≡ Some (xs ++ new ∷ [])) next (all_of-more ends_of ds j xs d new s g (sym e))
 
-all_or_first : {A : Type 0} (f : Data → Option A) (ds : List Data) → ((xs : List A) × (all_of f ds ≡ Some xs)) ⊎ ((i : ℕ) × IsFirstBad f ds i)
+pub all_or_first : {B A : Type 0} (f : B → Option A) (ds : List B) → ((xs : List A) × (all_of f ds ≡ Some xs)) ⊎ ((i : ℕ) × IsFirstBad f ds i)
 all_or_first f [] = inl ([], refl)
 all_or_first f (d ∷ ds) = or_first f d ds (f d) refl (all_or_first f ds)
 

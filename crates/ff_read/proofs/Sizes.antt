@@ -14,6 +14,7 @@ use Rattle.serde_json.specs.Data.{Num, Data, null, boolean, number, string, arra
 use Rattle.serde_json.specs.Find.{get, get_member, as_object}
 use Rattle.serde_json.specs.Read.{of_json, of_items, of_members, number_of, read, max_depth}
 use Rattle.ff_read.specs.Read.{HasFewItems}
+use Rattle.ff_read.specs.Checks.{HasFewMembers}
 use Rattle.ff_read.specs.Spelling.{listed, list_of, only_object, json_of, object_of}
 
 -- ---- tokens
@@ -359,6 +360,14 @@ few_items bytes d k ds r e =
     let one = of_some (λ (xs : List Data). suc (suc (length xs))) (weight d) (option_and_then list_of (get k d)) ds e (under_at (get k d) (weight d) (get_most k d)) in
     omega (arith, all, one)
 
+-- the list under a key of what lies under a key of the object that bytes are
+few_items_under : (bytes : List ℕ) (d e : Data) (k l : List ℕ) (ds : List Data) → read bytes ≡ Some d → get k d ≡ Some e → option_and_then list_of (get l e) ≡ Some ds → length ds < length bytes
+few_items_under bytes d e k l ds r h g =
+    let all = read_most bytes d r in
+    let there = of_some (λ (x : Data). suc (weight x)) (weight d) (get k d) e h (get_most k d) in
+    let one = of_some (λ (xs : List Data). suc (suc (length xs))) (weight e) (option_and_then list_of (get l e)) ds g (under_at (get l e) (weight e) (get_most l e)) in
+    omega (arith, all, there, one)
+
 -- ---- the object of bytes that aren't too many
 
 kept_if : (b : Bool) (xs ds : List Data) → (if b then Some xs else None) ≡ Some ds → Some xs ≡ Some ds
@@ -389,4 +398,20 @@ has_few_items bytes d l o =
         vertices = omega (arith, l, few_items bytes d (codes "vertices_coords") k.vertices r (kept (option_and_then list_of (get (codes "vertices_coords") d)) k.vertices h.vertices));
         edges = omega (arith, l, few_items bytes d (codes "edges_vertices") k.edges r h.edges);
       };
+    }
+
+pub has_few_members : (bytes : List ℕ) (d : Data) → length bytes < 2 ^ 32 → object_of bytes ≡ Some d → HasFewMembers d
+has_few_members bytes d l o =
+    let r = read_is (is_utf8 bytes) (read bytes) d (object_is (json_of bytes) d o) in
+    record {
+      fold = λ fold is.
+          let there = object_is (get (codes "fold") d) fold is in
+          record {
+            few = λ k h. record {
+              vertices = omega (arith, l, few_items_under bytes d fold (codes "fold") (codes "vertices_coords") k.vertices r there (kept (option_and_then list_of (get (codes "vertices_coords") fold)) k.vertices h.vertices));
+              edges = omega (arith, l, few_items_under bytes d fold (codes "fold") (codes "edges_vertices") k.edges r there h.edges);
+            };
+          };
+      pins = λ ds is. omega (arith, l, few_items bytes d (codes "pins") ds r is);
+      lines = λ ds is. omega (arith, l, few_items bytes d (codes "log") ds r is);
     }

@@ -4,3 +4,4 @@ pub mod Lists
 pub mod Read
 pub mod Seen
 pub mod Readings
+pub mod Checks

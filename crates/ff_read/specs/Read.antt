@@ -14,7 +14,7 @@ use Rattle.ff_read.specs.Refused.{AreNear, IsFirstBad, IsFirstBadEdge, IsFirstFa
 use Rattle.ff_read.specs.Spelling.{Keys, IsKeyed, Spells, object_of, point_of, mark_of, all_of}
 
 -- why not all items were read
-abbrev pub IsBadItem : {A : Type 0} → (Data → Option A) → List Data → ItemNo → Type 0
+abbrev pub IsBadItem : {B A : Type 0} → (B → Option A) → List B → ItemNo → Type 0
 IsBadItem f ds (Bad i) = IsFirstBad f ds i
 IsBadItem f ds NoMemory = Unit {0}
 

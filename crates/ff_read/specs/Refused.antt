@@ -21,8 +21,8 @@ use Rattle.ff_read.specs.Spelling.{Keys, IsKeyed, vertices_in, edges_in, marks_i
 -- ---- the first item that isn't as it must be
 
 -- item i spells nothing, and each one before it something
-pub record IsFirstBad {A : Type 0} (f : Data → Option A) (ds : List Data) (i : ℕ) : Type 0 where
-  pub item : Data
+pub record IsFirstBad {B A : Type 0} (f : B → Option A) (ds : List B) (i : ℕ) : Type 0 where
+  pub item : B
   pub is : slice_get ds i ≡ Some item
   pub bad : f item ≡ None
   pub front : List A

@@ -77,7 +77,7 @@ abbrev pub mark_of : Data → Option Mark
 mark_of d = option_and_then letter (as_str d)
 
 -- what each item spells, None where one spells nothing
-abbrev pub all_of : {A : Type 0} → (Data → Option A) → List Data → Option (List A)
+abbrev pub all_of : {B A : Type 0} → (B → Option A) → List B → Option (List A)
 all_of f [] = Some []
 all_of f (d ∷ ds) = option_and_then (λ a. option_map (λ rest. a ∷ rest) (all_of f ds)) (f d)
 
