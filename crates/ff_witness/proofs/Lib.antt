@@ -1,0 +1,2 @@
+mod OnEdges
+mod Witnesses
