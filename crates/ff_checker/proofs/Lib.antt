@@ -1,0 +1,13 @@
+mod Claims
+mod Soundness
+mod SheetRows
+mod HeldLists
+mod Undoing
+mod BranchLists
+mod Readings
+mod Goings
+mod Fitting
+mod SheetLaw
+mod OneVerdict
+mod Refining
+mod CaseGrounds

@@ -1,0 +1,4 @@
+pub mod Verdicts
+pub mod LogLaws
+pub mod LogStates
+pub mod Readings
