@@ -2,6 +2,7 @@
 #![tactic(auto)]
 
 mod commands;
+mod copying;
 mod numbers;
 mod orders;
 mod reading;

@@ -1,0 +1,12 @@
+pub mod Epochs
+pub mod Publications
+pub mod Pages
+pub mod Reasons
+pub mod Replies
+pub mod Journals
+pub mod Shown
+pub mod Waiting
+pub mod Reading
+pub mod Premises
+pub mod Laws
+pub mod Answering
