@@ -1,5 +1,5 @@
 -- What has been read within the limits is a pattern.
-use Rattle.std.proofs.Common.{◌≡◌, ◌∙◌, ap, ℕ, ◌<◌, ◌≤◌, ◌⊎◌, inl, inr, List, length, Option, None, Some, option_map, arith, sym, refl}
+use Rattle.std.proofs.Common.{◌≡◌, ◌∙◌, ap, ℕ, ◌<◌, ◌≤◌, ◌⊎◌, inl, inr, List, length, Option, None, Some, option_map, sym, refl}
 use Rattle.std.proofs.lemmas.Option.{none-some, same_Some}
 use Rattle.ff_basics.proofs.Numbers.{less_or}
 use Rattle.serde_json.specs.Data.{Data}

@@ -7,4 +7,7 @@ mod SeenEdges
 mod SortedEdges
 mod Texts
 mod Members
+mod FoldRefusals
 mod OneCheck
+mod ScriptLists
+mod OneBench

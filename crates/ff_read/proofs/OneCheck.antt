@@ -19,6 +19,7 @@ use Rattle.ff_read.specs.Refused.{IsNoFold, IsNoKey, RefusesKey, RefusesItems, R
 use Rattle.ff_read.specs.Checks.{HasMembers, IsCheckOf, IsCheck, IsNoCheckOf, RefusesCheck, RefusesInput, RefusesMember, fold_in, lines_in, pins_in}
 use Rattle.ff_read.specs.Readings.{CheckIsOne}
 use Rattle.ff_read.proofs.Outcomes.{one_out, one_value}
+use Rattle.ff_read.proofs.FoldRefusals.{items_refused, key_refused, one_spelled}
 use Rattle.ff_read.proofs.OneReading.{no_value, same_keys, one_key, key_or_keys, keys_out, spelled_out, refused_out, object_out}
 
 -- ---- the outcomes, stage by stage; None where an input is read
@@ -173,65 +174,21 @@ refused_items d k ps ls m (BadScript w n) h = (k, ps, ls, m, h)
 
 -- so is a refusal of the crease pattern, where its keys are there
 pub refused_fold : (d fold : Data) (k : Keys) (ps : List Pin) (ls : List (List ℕ)) → HasMembers d k ps ls → IsKeyed fold k → (r : Refusal) → RefusesFold fold r → RefusesCheck d r
-refused_fold d fold k ps ls m keyed (BadKey q) h = absurd (key_or_keys fold q k h keyed)
-refused_fold d fold k ps ls m keyed TooLong h = refused_items d k ps ls m TooLong (subst (λ (x : Keys). RefusesItems x TooLong) (same_keys fold h.0 k h.1 keyed) h.2)
-refused_fold d fold k ps ls m keyed NotJson h = refused_items d k ps ls m NotJson (subst (λ (x : Keys). RefusesItems x NotJson) (same_keys fold h.0 k h.1 keyed) h.2)
-refused_fold d fold k ps ls m keyed (BadVertex v) h = refused_items d k ps ls m (BadVertex v) (subst (λ (x : Keys). RefusesItems x (BadVertex v)) (same_keys fold h.0 k h.1 keyed) h.2)
-refused_fold d fold k ps ls m keyed (FarVertex v) h = refused_items d k ps ls m (FarVertex v) (subst (λ (x : Keys). RefusesItems x (FarVertex v)) (same_keys fold h.0 k h.1 keyed) h.2)
-refused_fold d fold k ps ls m keyed (BadEdge e) h = refused_items d k ps ls m (BadEdge e) (subst (λ (x : Keys). RefusesItems x (BadEdge e)) (same_keys fold h.0 k h.1 keyed) h.2)
-refused_fold d fold k ps ls m keyed (BadMark e) h = refused_items d k ps ls m (BadMark e) (subst (λ (x : Keys). RefusesItems x (BadMark e)) (same_keys fold h.0 k h.1 keyed) h.2)
-refused_fold d fold k ps ls m keyed (SamePoint v) h = refused_items d k ps ls m (SamePoint v) (subst (λ (x : Keys). RefusesItems x (SamePoint v)) (same_keys fold h.0 k h.1 keyed) h.2)
-refused_fold d fold k ps ls m keyed (Crossing e q) h = refused_items d k ps ls m (Crossing e q) (subst (λ (x : Keys). RefusesItems x (Crossing e q)) (same_keys fold h.0 k h.1 keyed) h.2)
-refused_fold d fold k ps ls m keyed (Loose v) h = refused_items d k ps ls m (Loose v) (subst (λ (x : Keys). RefusesItems x (Loose v)) (same_keys fold h.0 k h.1 keyed) h.2)
-refused_fold d fold k ps ls m keyed (Rim e) h = refused_items d k ps ls m (Rim e) (subst (λ (x : Keys). RefusesItems x (Rim e)) (same_keys fold h.0 k h.1 keyed) h.2)
-refused_fold d fold k ps ls m keyed (Pinch v) h = refused_items d k ps ls m (Pinch v) (subst (λ (x : Keys). RefusesItems x (Pinch v)) (same_keys fold h.0 k h.1 keyed) h.2)
-refused_fold d fold k ps ls m keyed (Reflex v) h = refused_items d k ps ls m (Reflex v) (subst (λ (x : Keys). RefusesItems x (Reflex v)) (same_keys fold h.0 k h.1 keyed) h.2)
-refused_fold d fold k ps ls m keyed (Enclosed v) h = refused_items d k ps ls m (Enclosed v) (subst (λ (x : Keys). RefusesItems x (Enclosed v)) (same_keys fold h.0 k h.1 keyed) h.2)
-refused_fold d fold k ps ls m keyed (Apart f) h = refused_items d k ps ls m (Apart f) (subst (λ (x : Keys). RefusesItems x (Apart f)) (same_keys fold h.0 k h.1 keyed) h.2)
-refused_fold d fold k ps ls m keyed (Parity e) h = refused_items d k ps ls m (Parity e) (subst (λ (x : Keys). RefusesItems x (Parity e)) (same_keys fold h.0 k h.1 keyed) h.2)
-refused_fold d fold k ps ls m keyed (Inconsistent v) h = refused_items d k ps ls m (Inconsistent v) (subst (λ (x : Keys). RefusesItems x (Inconsistent v)) (same_keys fold h.0 k h.1 keyed) h.2)
-refused_fold d fold k ps ls m keyed (Oversized v) h = refused_items d k ps ls m (Oversized v) (subst (λ (x : Keys). RefusesItems x (Oversized v)) (same_keys fold h.0 k h.1 keyed) h.2)
-refused_fold d fold k ps ls m keyed (TooMany what.Vertices n) h = refused_items d k ps ls m (TooMany what.Vertices n) (subst (λ (x : Keys). RefusesItems x (TooMany what.Vertices n)) (same_keys fold h.0 k h.1 keyed) h.2)
-refused_fold d fold k ps ls m keyed (TooMany what.Edges n) h = refused_items d k ps ls m (TooMany what.Edges n) (subst (λ (x : Keys). RefusesItems x (TooMany what.Edges n)) (same_keys fold h.0 k h.1 keyed) h.2)
-refused_fold d fold k ps ls m keyed (TooMany what.Viewers n) h = refused_items d k ps ls m (TooMany what.Viewers n) (subst (λ (x : Keys). RefusesItems x (TooMany what.Viewers n)) (same_keys fold h.0 k h.1 keyed) h.2)
-refused_fold d fold k ps ls m keyed (TooMany what.Commands n) h = refused_items d k ps ls m (TooMany what.Commands n) (subst (λ (x : Keys). RefusesItems x (TooMany what.Commands n)) (same_keys fold h.0 k h.1 keyed) h.2)
-refused_fold d fold k ps ls m keyed (TooMany what.Faces n) h = refused_items d k ps ls m (TooMany what.Faces n) (subst (λ (x : Keys). RefusesItems x (TooMany what.Faces n)) (same_keys fold h.0 k h.1 keyed) h.2)
-refused_fold d fold k ps ls m keyed (TooMany what.Cells n) h = refused_items d k ps ls m (TooMany what.Cells n) (subst (λ (x : Keys). RefusesItems x (TooMany what.Cells n)) (same_keys fold h.0 k h.1 keyed) h.2)
-refused_fold d fold k ps ls m keyed (TooMany what.Entries n) h = refused_items d k ps ls m (TooMany what.Entries n) (subst (λ (x : Keys). RefusesItems x (TooMany what.Entries n)) (same_keys fold h.0 k h.1 keyed) h.2)
-refused_fold d fold k ps ls m keyed (TooMany what.Pairs n) h = refused_items d k ps ls m (TooMany what.Pairs n) (subst (λ (x : Keys). RefusesItems x (TooMany what.Pairs n)) (same_keys fold h.0 k h.1 keyed) h.2)
-refused_fold d fold k ps ls m keyed (TooMany what.Constraints n) h = refused_items d k ps ls m (TooMany what.Constraints n) (subst (λ (x : Keys). RefusesItems x (TooMany what.Constraints n)) (same_keys fold h.0 k h.1 keyed) h.2)
-refused_fold d fold k ps ls m keyed (BadScript w n) h = refused_items d k ps ls m (BadScript w n) (subst (λ (x : Keys). RefusesItems x (BadScript w n)) (same_keys fold h.0 k h.1 keyed) h.2)
-refused_fold d fold k ps ls m keyed (TooMany what.Pins n) h = refused_items d k ps ls m (TooMany what.Pins n) (subst (λ (x : Keys). RefusesItems x (TooMany what.Pins n)) (same_keys fold h.0 k h.1 keyed) h.2)
+refused_fold d fold k ps ls m keyed r h = refused_items d k ps ls m r (items_refused fold k keyed r h)
+
+-- so is a refusal of its keys
+refused_member : (d fold : Data) → fold_in d ≡ Some fold → (k : Key) → RefusesKey fold k → RefusesMember d k
+refused_member d fold f key.VerticesCoords h = (fold, f, h)
+refused_member d fold f key.EdgesVertices h = (fold, f, h)
+refused_member d fold f key.EdgesAssignment h = (fold, f, h)
+refused_member d fold f key.Fold h = absurd h
+refused_member d fold f key.Pins h = absurd h
+refused_member d fold f key.Log h = absurd h
+refused_member d fold f key.Viewers h = absurd h
 
 -- why a call gave none of the crease pattern is why there is no input
 pub no_key : (d fold : Data) → fold_in d ≡ Some fold → (n : No) → IsNoKey fold n → IsNoCheckOf d n
-no_key d fold f (no.Refused (BadKey key.VerticesCoords)) h = (fold, f, h)
-no_key d fold f (no.Refused (BadKey key.EdgesVertices)) h = (fold, f, h)
-no_key d fold f (no.Refused (BadKey key.EdgesAssignment)) h = (fold, f, h)
-no_key d fold f (no.Refused (BadKey key.Fold)) h = absurd h
-no_key d fold f (no.Refused (BadKey key.Pins)) h = absurd h
-no_key d fold f (no.Refused (BadKey key.Log)) h = absurd h
-no_key d fold f (no.Refused (BadKey key.Viewers)) h = absurd h
-no_key d fold f (no.Refused TooLong) h = absurd h
-no_key d fold f (no.Refused NotJson) h = absurd h
-no_key d fold f (no.Refused (BadVertex v)) h = absurd h
-no_key d fold f (no.Refused (FarVertex v)) h = absurd h
-no_key d fold f (no.Refused (BadEdge e)) h = absurd h
-no_key d fold f (no.Refused (BadMark e)) h = absurd h
-no_key d fold f (no.Refused (SamePoint v)) h = absurd h
-no_key d fold f (no.Refused (Crossing e k)) h = absurd h
-no_key d fold f (no.Refused (Loose v)) h = absurd h
-no_key d fold f (no.Refused (Rim e)) h = absurd h
-no_key d fold f (no.Refused (Pinch v)) h = absurd h
-no_key d fold f (no.Refused (Reflex v)) h = absurd h
-no_key d fold f (no.Refused (Enclosed v)) h = absurd h
-no_key d fold f (no.Refused (Apart x)) h = absurd h
-no_key d fold f (no.Refused (Parity e)) h = absurd h
-no_key d fold f (no.Refused (Inconsistent v)) h = absurd h
-no_key d fold f (no.Refused (Oversized v)) h = absurd h
-no_key d fold f (no.Refused (TooMany w n)) h = absurd h
-no_key d fold f (no.Refused (BadScript w n)) h = absurd h
-no_key d fold f no.NoMemory h = absurd h
+no_key d fold f n h = let r = key_refused fold n h in subst (IsNoCheckOf d) (sym r.2) (refused_member d fold f r.0 r.1)
 
 pub no_fold : (d fold : Data) (k : Keys) (ps : List Pin) (ls : List (List ℕ)) → HasMembers d k ps ls → IsKeyed fold k → (n : No) → IsNoFold fold n → IsNoCheckOf d n
 no_fold d fold k ps ls m keyed (no.Refused r) h = refused_fold d fold k ps ls m keyed r h
@@ -255,18 +212,9 @@ module _ (d : Data) (none : (a : CheckInput) → IsCheckOf d a → ⊥) (refused
   with_pins fold k None f keyed g = refused (BadKey key.Pins) (fold, k, f, keyed, g)
   with_pins fold k (Some ps) f keyed g = with_lines fold k ps (lines_in d) f keyed g refl
 
-  refused_key : (fold : Data) (k : Key) → fold_in d ≡ Some fold → RefusesKey fold k → ⊥
-  refused_key fold key.VerticesCoords f h = refused (BadKey key.VerticesCoords) (fold, f, h)
-  refused_key fold key.EdgesVertices f h = refused (BadKey key.EdgesVertices) (fold, f, h)
-  refused_key fold key.EdgesAssignment f h = refused (BadKey key.EdgesAssignment) (fold, f, h)
-  refused_key fold key.Fold f h = h
-  refused_key fold key.Pins f h = h
-  refused_key fold key.Log f h = h
-  refused_key fold key.Viewers f h = h
-
   with_fold : (o : Option Data) → fold_in d ≡ o → ⊥
   with_fold None f = refused (BadKey key.Fold) f
-  with_fold (Some fold) f = keys_out fold (λ k h. refused_key fold k f h) (λ k h. with_pins fold k (pins_in d) f h refl)
+  with_fold (Some fold) f = keys_out fold (λ k h. refused (BadKey k) (refused_member d fold f k h)) (λ k h. with_pins fold k (pins_in d) f h refl)
 
 -- ---- bytes
 
@@ -354,11 +302,7 @@ one_pattern d a b g h =
     let fold = one_value (fold_in d) g.members.fold h.members.fold g.members.there h.members.there in
     let keyed = subst (λ (x : Data). IsKeyed x g.keys) fold g.members.keyed in
     let keys = same_keys h.members.fold g.keys h.keys keyed h.members.keyed in
-    let spelled = subst (λ (k : Keys). AreSpelled k a.pattern) keys g.spelled in (
-      one_value _ a.pattern.points b.pattern.points spelled.points h.spelled.points,
-      one_value _ a.pattern.edges b.pattern.edges spelled.edges h.spelled.edges,
-      one_value _ a.pattern.marks b.pattern.marks spelled.marks h.spelled.marks,
-    )
+    one_spelled h.keys a.pattern b.pattern (subst (λ (k : Keys). AreSpelled k a.pattern) keys g.spelled) h.spelled
 
 pub check_is_one : CheckIsOne
 check_is_one = record {

@@ -61,6 +61,10 @@ begins_at f d ds xs (Some a) e h = begins_rest f d ds xs a (all_of f ds) e refl 
 begins : {B A : Type 0} (f : B → Option A) (d : B) (ds : List B) (xs : List A) → all_of f (d ∷ ds) ≡ Some xs → Begins f d ds xs
 begins f d ds xs h = begins_at f d ds xs (f d) refl h
 
+pub head_and_rest : {B A : Type 0} (f : B → Option A) (d : B) (ds : List B) (xs : List A) → all_of f (d ∷ ds) ≡ Some xs → (a : A) × (rest : List A) × (f d ≡ Some a) × (all_of f ds ≡ Some rest) × (xs ≡ a ∷ rest)
+unfolding Begins
+head_and_rest f d ds xs h = begins f d ds xs h
+
 -- item i spells item i
 spells_at : {B A : Type 0} (f : B → Option A) (us : List B) (xs : List A) (i : ℕ) (d : B) (z : A) → all_of f us ≡ Some xs → slice_get us i ≡ Some d → (f d ≡ Some (get_or xs i z)) × (i < length xs)
 unfolding Begins

@@ -1,21 +1,24 @@
 -- An array that bytes spell has fewer items than there are bytes.
-use Rattle.std.proofs.Common.{◌≡◌, ℕ, zero, suc, ◌+◌, ◌<◌, ◌≤◌, ◌^◌, nat_le, if◌then◌else◌, codes, List, [], ◌∷◌, length, Bool, true, false, Option, None, Some, option_map, option_and_then, arith, refl, subst}
+use Rattle.std.proofs.Common.{◌≡◌, ℕ, zero, suc, ◌+◌, ◌<◌, ◌≤◌, ◌^◌, nat_le, if◌then◌else◌, codes, List, [], ◌∷◌, length, Bool, true, false, Option, None, Some, option_map, option_and_then, slice_get, arith, refl, sym, subst}
+use Rattle.std.specs.List.{list_all}
 use Rattle.std.specs.Option.{is_some}
 use Rattle.std.specs.Ordering.{nat_cmp, match_ordering}
 use Rattle.std.specs.Str.{is_utf8}
 use Rattle.std.specs.Cmp.Lexicographic.{slice_cmp}
 use Rattle.std.specs.declared.cmp.Ordering.{Ordering}
 use Rattle.std.specs.declared.cmp.Ordering.TheVariants.{Less, Equal, Greater}
-use Rattle.std.proofs.lemmas.Option.{same_Some}
+use Rattle.std.proofs.lemmas.Option.{none-some, same_Some}
 use Rattle.json.specs.Token.{Token}
 use Rattle.json.specs.Lex.{Lexeme, token, comma, colon, Class, quote, backslash, operator, space, other, Mode, between, in_word, in_string, in_escape, class, lex_byte, lex, Place, fresh, after_value, after_comma, after_key, begins_colon, may_begin, may_close, if_allowed, place_token, punctuate, tokens}
 use Rattle.json.specs.Json as json
 use Rattle.serde_json.specs.Data.{Num, Data, null, boolean, number, string, array, object, Items, no_items, item, Members, no_members, member, put}
-use Rattle.serde_json.specs.Find.{get, get_member, as_object}
+use Rattle.serde_json.specs.Find.{get, get_member, as_object, as_str}
 use Rattle.serde_json.specs.Read.{of_json, of_items, of_members, number_of, read, max_depth}
 use Rattle.ff_read.specs.Read.{HasFewItems}
+use Rattle.ff_read.specs.Benches.{HasFewScripts, HaveFew, only_texts, script_in, scripts_in}
 use Rattle.ff_read.specs.Checks.{HasFewMembers}
-use Rattle.ff_read.specs.Spelling.{listed, list_of, only_object, json_of, object_of}
+use Rattle.ff_read.specs.Spelling.{all_of, listed, list_of, only_object, json_of, object_of}
+use Rattle.ff_read.proofs.Outcomes.{head_and_rest}
 
 -- ---- tokens
 
@@ -414,4 +417,72 @@ has_few_members bytes d l o =
           };
       pins = λ ds is. omega (arith, l, few_items bytes d (codes "pins") ds r is);
       lines = λ ds is. omega (arith, l, few_items bytes d (codes "log") ds r is);
+    }
+
+-- ---- the scripts of viewers
+
+abbrev Lighter : ℕ → List Data → Type 0
+Lighter n [] = Unit {0}
+Lighter n (d ∷ ds) = (weight d ≤ n) × Lighter n ds
+
+lighter : (n m : ℕ) (ds : List Data) → n ≤ m → Lighter n ds → Lighter m ds
+lighter n m [] l a = tt
+lighter n m (d ∷ ds) l a = (omega (arith, l, a.0), lighter n m ds l a.1)
+
+each_listed : (es : Items) → Lighter (items_weight es) (listed es)
+each_listed no_items = tt
+each_listed (item d es) = (omega arith, lighter (items_weight es) (weight d + items_weight es) (listed es) (omega arith) (each_listed es))
+
+-- each item of an array weighs no more than the array
+each_item : (d : Data) (ds : List Data) → list_of d ≡ Some ds → Lighter (weight d) ds
+each_item null ds e = absurd (cc)
+each_item (boolean b) ds e = absurd (cc)
+each_item (number n) ds e = absurd (cc)
+each_item (string s) ds e = absurd (cc)
+each_item (object ms) ds e = absurd (cc)
+each_item (array es) ds e =
+    subst (Lighter (suc (items_weight es))) (same_Some (listed es) ds e)
+    (lighter (items_weight es) (suc (items_weight es)) (listed es) (omega arith) (each_listed es))
+
+texts_are : (o : Option (List Data)) (ds : List Data) → option_and_then only_texts o ≡ Some ds → o ≡ Some ds
+texts_are None ds e = absurd (cc)
+texts_are (Some xs) ds e = kept_if (list_all (λ d. is_some (as_str d)) xs) xs ds e
+
+script_short : (d : Data) (ds : List Data) → script_in d ≡ Some ds → suc (length ds) ≤ weight d
+script_short d ds e = of_some (λ (xs : List Data). suc (length xs)) (weight d) (list_of d) ds (texts_are (list_of d) ds e) (list_most d)
+
+few_more : (script : List Data) (rest : List (List Data)) → length script < 2 ^ 32 → HaveFew rest → (v : ℕ) (ds : List Data) → slice_get (script ∷ rest) v ≡ Some ds → length ds < 2 ^ 32
+few_more script rest l few zero ds e = subst (λ (xs : List Data). length xs < 2 ^ 32) (same_Some script ds e) l
+few_more script rest l few (suc v) ds e = few v ds e
+
+scripts_short : (n : ℕ) (ds : List Data) (vs : List (List Data)) → n < 2 ^ 32 → Lighter n ds → all_of script_in ds ≡ Some vs → HaveFew vs
+scripts_short n [] vs l a e = subst HaveFew (same_Some [] vs e) (λ v script g. absurd (none-some script g))
+scripts_short n (d ∷ ds) vs l a e =
+    let b = head_and_rest script_in d ds vs e in
+    let short = script_short d b.0 b.2 in
+    let first : length b.0 < 2 ^ 32 = omega (arith, l, a.0, short) in
+    subst HaveFew (sym b.4) (few_more b.0 b.1 first (scripts_short n ds b.1 l a.1 b.3))
+
+some_scripts : (ds : List Data) (vs : List (List Data)) → scripts_in ds ≡ Some vs → all_of script_in ds ≡ Some vs
+some_scripts [] vs e = absurd (cc)
+some_scripts (d ∷ ds) vs e = e
+
+scripts_listed : (n : ℕ) (d : Data) (o : Option (List Data)) (vs : List (List Data)) → n < 2 ^ 32 → weight d ≤ n → list_of d ≡ o → option_and_then scripts_in o ≡ Some vs → HaveFew vs
+scripts_listed n d None vs l w f e = absurd (cc)
+scripts_listed n d (Some ds) vs l w f e = scripts_short (weight d) ds vs (omega (arith, l, w)) (each_item d ds f) (some_scripts ds vs e)
+
+scripts_under : (n : ℕ) (o : Option Data) (vs : List (List Data)) → n < 2 ^ 32 → ((e : Data) → o ≡ Some e → weight e ≤ n) → option_and_then scripts_in (option_and_then list_of o) ≡ Some vs → HaveFew vs
+scripts_under n None vs l w e = absurd (cc)
+scripts_under n (Some d) vs l w e = scripts_listed n d (list_of d) vs l (w d refl) refl e
+
+pub has_few_scripts : (bytes : List ℕ) (d : Data) → length bytes < 2 ^ 32 → object_of bytes ≡ Some d → HasFewScripts d
+has_few_scripts bytes d l o =
+    let r = read_is (is_utf8 bytes) (read bytes) d (object_is (json_of bytes) d o) in
+    let all = read_most bytes d r in
+    record {
+      fold = (has_few_members bytes d l o).fold;
+      viewers = λ ds is. omega (arith, l, few_items bytes d (codes "viewers") ds r is);
+      scripts = λ vs is.
+          scripts_under (length bytes) (get (codes "viewers") d) vs l
+          (λ e h. omega (arith, all, of_some (λ (x : Data). suc (weight x)) (weight d) (get (codes "viewers") d) e h (get_most (codes "viewers") d))) is;
     }

@@ -1,5 +1,5 @@
 -- Edges whose numbers, sorted, rise are different edges.
-use Rattle.std.proofs.Common.{◌≡◌, ◌∙◌, ℕ, ◌+◌, ◌-◌, ◌<◌, List, length, get_or, map, Bool, true, false, arith, refl, sym, ap, subst, ◌⊎◌, inl, inr}
+use Rattle.std.proofs.Common.{◌≡◌, ◌∙◌, ℕ, ◌+◌, ◌-◌, ◌<◌, List, length, get_or, map, false, arith, sym, subst, ◌⊎◌, inl, inr}
 use lib.Dec.{eqb}
 use Rattle.std.proofs.lemmas.Bool.{eqb-false}
 use Rattle.std.proofs.lemmas.List.{get_or_default, get_or-map, length-map}

@@ -1,11 +1,9 @@
 -- Which crease pattern, pins and log lines a JSON object spells, and why it spells none. This project's own.
 use Rattle.std.specs.Prelude.{ℕ, ◌≡◌, ◌≢◌, ◌<◌, ◌≤◌, ◌^◌, List, [], ◌∷◌, length, slice_get, codes, nat_lt, ◌==◌, if◌then◌else◌, Option, None, Some, option_map, option_and_then}
 use Rattle.std.specs.List.{list_any}
-use Rattle.std.specs.Str.{bytes_eq}
 use Rattle.serde_json.specs.Data.{Data}
 use Rattle.serde_json.specs.Find.{get, as_str}
 use Rattle.ff_tables.specs.declared.orders.Order.{Order}
-use Rattle.ff_tables.specs.declared.orders.Order.TheVariants.{Below, Above}
 use Rattle.ff_types.specs.declared.limits.TheConstants.{MOST_FACES}
 use Rattle.ff_types.specs.declared.patterns.Pattern.{Pattern}
 use Rattle.ff_types.specs.declared.pins.Pin.{Pin}
@@ -16,6 +14,7 @@ use Rattle.ff_types.specs.declared.refusals.No.TheVariants as no
 use Rattle.ff_types.specs.declared.refusals.Refusal.{Refusal}
 use Rattle.ff_types.specs.declared.refusals.Refusal.TheVariants.{BadKey, NotJson, TooMany}
 use Rattle.ff_types.specs.declared.refusals.What.TheVariants.{Pins}
+use Rattle.ff_viewer.specs.Grammar.{order}
 use Rattle.ff_read.specs.declared.checks.CheckInput.{CheckInput}
 use Rattle.ff_read.specs.declared.checks.TheConstants.{MOST_PINS}
 use Rattle.ff_read.specs.Spelling.{Keys, IsKeyed, AreSpelled, all_of, list_of, natural, object_of, only_object}
@@ -32,12 +31,9 @@ fold_in d = option_and_then only_object (get (codes "fold") d)
 abbrev pub face_of : Data → Option ℕ
 face_of d = option_and_then (λ n. if nat_lt n MOST_FACES then Some n else None) (natural d)
 
-abbrev pub above_or_below : List ℕ → Option Order
-above_or_below t = if bytes_eq t (codes "above") then Some Above else (if bytes_eq t (codes "below") then Some Below else None)
-
 -- `"above"` or `"below"`
 abbrev pub order_of : Data → Option Order
-order_of d = option_and_then above_or_below (as_str d)
+order_of d = option_and_then order (as_str d)
 
 -- `[f, g, "above"]` or `[f, g, "below"]`, with two different faces
 abbrev pub pin_in : List Data → Option Pin

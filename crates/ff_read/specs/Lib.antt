@@ -5,3 +5,5 @@ pub mod Read
 pub mod Seen
 pub mod Readings
 pub mod Checks
+pub mod Benches
+pub mod Scripts

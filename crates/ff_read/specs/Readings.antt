@@ -1,9 +1,11 @@
--- Bytes come to one pattern or to one refusal, and so they do to an input of `check`.
+-- Bytes come to one pattern or to one refusal, and so they do to an input of `check` or `bench`.
 use Rattle.std.specs.Prelude.{ℕ, ◌≡◌, List}
 use Rattle.ff_types.specs.declared.patterns.Pattern.{Pattern}
 use Rattle.ff_types.specs.declared.refusals.Refusal.{Refusal}
+use Rattle.ff_read.specs.declared.benches.BenchInput.{BenchInput}
 use Rattle.ff_read.specs.declared.checks.CheckInput.{CheckInput}
 use Rattle.ff_read.specs.Read.{IsReadAs, RefusesBytes}
+use Rattle.ff_read.specs.Benches.{IsBench, RefusesSession}
 use Rattle.ff_read.specs.Checks.{IsCheck, RefusesInput}
 
 -- bytes come to one pattern or to one refusal, never to both and never to neither
@@ -21,3 +23,11 @@ pub record CheckIsOne : Type 0 where
   pub refusal : (bytes : List ℕ) (r s : Refusal) → RefusesInput bytes r → RefusesInput bytes s → r ≡ s
   pub not_both : (bytes : List ℕ) (a : CheckInput) (r : Refusal) → IsCheck bytes a → RefusesInput bytes r → ⊥
   pub some : (bytes : List ℕ) → ((a : CheckInput) → IsCheck bytes a → ⊥) → ((r : Refusal) → RefusesInput bytes r → ⊥) → ⊥
+
+pub record BenchIsOne : Type 0 where
+  pub pattern : (bytes : List ℕ) (a b : BenchInput) → IsBench bytes a → IsBench bytes b
+      → (a.pattern.points ≡ b.pattern.points) × (a.pattern.edges ≡ b.pattern.edges) × (a.pattern.marks ≡ b.pattern.marks)
+  pub scripts : (bytes : List ℕ) (a b : BenchInput) → IsBench bytes a → IsBench bytes b → a.scripts ≡ b.scripts
+  pub refusal : (bytes : List ℕ) (r s : Refusal) → RefusesSession bytes r → RefusesSession bytes s → r ≡ s
+  pub not_both : (bytes : List ℕ) (a : BenchInput) (r : Refusal) → IsBench bytes a → RefusesSession bytes r → ⊥
+  pub some : (bytes : List ℕ) → ((a : BenchInput) → IsBench bytes a → ⊥) → ((r : Refusal) → RefusesSession bytes r → ⊥) → ⊥

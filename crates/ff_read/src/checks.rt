@@ -4,14 +4,15 @@ ghost use Rattle.std.specs.List.{list_any};
 ghost use Rattle.serde_json.specs.Data.{Data};
 ghost use Rattle.serde_json.specs.View.{view};
 ghost use Rattle.ff_read.specs.Spelling.{all_of as all_spelled};
-ghost use Rattle.ff_read.specs.Checks.{ArePins, HasFewMembers, IsCheck, IsCheckOf, IsNoCheck, IsNoCheckOf, LiesUnder, above_or_below, face_of, fold_in, line_of, lines_in, order_of, pin_in, pin_of, pins_in};
+ghost use Rattle.ff_read.specs.Checks.{ArePins, HasFewMembers, IsCheck, IsCheckOf, IsNoCheck, IsNoCheckOf, LiesUnder, face_of, fold_in, line_of, lines_in, order_of, pin_in, pin_of, pins_in};
 
 use crate::items::{FromJson, ItemNo, all_of};
-use crate::keys::{fold_keys, items_of};
+use crate::keys::{bad, fold_keys, items_of};
 use crate::objects::read_object;
 use crate::patterns::fold_items;
 use ff_tables::{Items, NoMemory, Order, Text};
 use ff_types::{Key, MOST_FACES, No, Pattern, Pin, Refusal, What};
+use ff_viewer::read_order;
 use serde_json::Value;
 use std::alloc::Global;
 
@@ -38,20 +39,10 @@ fn face_in(value: &Value) -> Option<u32>
     }
 }
 
-fn named(word: &str) -> Option<Order>
-    ensures { result ≡ above_or_below word.now }
-{
-    match word {
-        "above" => Some(Order::Above),
-        "below" => Some(Order::Below),
-        _ => None,
-    }
-}
-
 fn order_in(value: &Value) -> Option<Order>
     ensures { result ≡ order_of (view value.now) }
 {
-    named(value.as_str()?)
+    read_order(value.as_str()?)
 }
 
 fn pin_at(list: &[Value]) -> Option<Pin>
@@ -80,13 +71,8 @@ impl FromJson for Pin {
     }
 }
 
-fn bad(key: Key) -> No
-    ensures { result ≡ No.Refused (Refusal.BadKey key) }
-{
-    No::Refused(Refusal::BadKey { key })
-}
-
-fn fold_at(object: &Value) -> Option<&Value>
+/// The object under `fold`.
+pub(crate) fn fold_at(object: &Value) -> Option<&Value>
     ensures { option_map (λ v. view v.now) result ≡ fold_in (view object.now) }
 {
     let fold = object.get("fold")?;

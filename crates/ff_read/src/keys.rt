@@ -17,7 +17,8 @@ pub struct Lists<'a> {
     pub marks: Option<&'a [Value]>,
 }
 
-fn bad(key: Key) -> No
+/// Refused by a key.
+pub(crate) fn bad(key: Key) -> No
     ensures { result ≡ No.Refused (Refusal.BadKey key) }
 {
     No::Refused(Refusal::BadKey { key })

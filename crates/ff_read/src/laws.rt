@@ -1,5 +1,5 @@
 //! Laws on what bytes spell.
-ghost use Rattle.ff_read.specs.Readings.{CheckIsOne, ReadingIsOne};
+ghost use Rattle.ff_read.specs.Readings.{BenchIsOne, CheckIsOne, ReadingIsOne};
 
 /// A law: bytes come to one pattern or to one refusal, never to both, and always to one of these. So each answer of
 /// `read_fold` but want of memory comes exactly where its definition holds.
@@ -10,4 +10,9 @@ pub fn reading_is_one()
 /// The same law of an input of `check`, and of `read_check`.
 pub fn check_is_one()
     ensures { CheckIsOne }
+{}
+
+/// The same law of an input of `bench`, and of `read_bench`.
+pub fn bench_is_one()
+    ensures { BenchIsOne }
 {}

@@ -1,6 +1,7 @@
-//! From bytes to a crease pattern, and to the input of `check`, by serde_json's reading of FOLD 1.1.
+//! From bytes to a crease pattern, and to the inputs of `check` and `bench`, by serde_json's reading of FOLD 1.1.
 #![tactic(auto)]
 
+mod benches;
 mod checks;
 mod edges;
 mod items;
@@ -9,8 +10,9 @@ mod laws;
 mod objects;
 mod patterns;
 
+pub use benches::{BenchInput, MOST_COMMANDS, MOST_VIEWERS, read_bench};
 pub use checks::{CheckInput, MOST_PINS, read_check};
 pub use keys::fold_keys;
-pub use laws::{check_is_one, reading_is_one};
+pub use laws::{bench_is_one, check_is_one, reading_is_one};
 pub use objects::read_object;
 pub use patterns::{fold_items, read_fold};

@@ -1,6 +1,6 @@
-use Rattle.std.proofs.Common.{◌≡◌, List, ℕ, length, map, sym, subst}
+use Rattle.std.proofs.Common.{length, subst}
 use Rattle.std.specs.List.Sorted.{IsPermutation}
-use Rattle.ff_read.specs.Seen.{edge_key, AreRising}
+use Rattle.ff_read.specs.Seen.{AreRising}
 use Rattle.ff_read.proofs.SortedEdges.{once_of}
 use Rattle.ff_read.proofs.edges.are_apart.Goals as goal
 

@@ -1,5 +1,5 @@
-use Rattle.std.proofs.Common.{◌<◌, arith}
-use Rattle.ff_read.proofs.SortedEdges.{rising_start, rising_more}
+use Rattle.std.proofs.Common.{arith}
+use Rattle.ff_read.proofs.SortedEdges.{rising_start}
 use Rattle.ff_read.proofs.edges.are_rising.Goals as goal
 
 pub loop-i-init : goal.loop-i-init
