@@ -8,6 +8,13 @@ use ff_types::Case;
 use std::alloc::Global;
 
 impl Pages {
+    /// The variables of the part. It takes no memory.
+    pub fn vars(&self) -> &[u32]
+        ensures { result.now ≡ self.now.part.vars }
+    {
+        self.part.vars.as_slice()
+    }
+
     /// The turns of the nodes that were visited. It takes no memory.
     pub fn used(&self) -> u64
         ensures { (vars : ℕ) (cons : _) → StandsIn vars cons self.now → result ≡ length self.now.part.vars * visited_of self.now }

@@ -1,0 +1,145 @@
+-- Commands that are answered and entered.
+use Rattle.std.proofs.Common.{◌≡◌, ℕ, zero, suc, ◌+◌, ◌<◌, ◌≤◌, inl, inr, List, [], ◌∷◌, ◌++◌, length, sym, refl, ap, ◌∙◌, subst, arith, Option, Some, None, Contains}
+use Rattle.ff_basics.proofs.Numbers.{at_most_or}
+use Rattle.ff_tables.specs.declared.orders.Order.{Order}
+use Rattle.ff_types.specs.declared.cases.Case.{Case}
+use Rattle.ff_propagate.specs.declared.facts.Fact.{Fact}
+use Rattle.ff_viewer.specs.declared.commands.Command.{Command}
+use Rattle.ff_viewer.specs.declared.commands.Command.TheVariants as command
+use Rattle.ff_viewer.specs.declared.commands.Question.{Question}
+use Rattle.ff_viewer.specs.declared.replies.Reply.{Reply}
+use Rattle.ff_journal.specs.declared.entries.Entry.{Entry}
+use Rattle.ff_journal.specs.declared.entries.Entry.TheVariants as entry
+use Rattle.ff_journal.specs.declared.entries.Outcome.TheVariants as outcome
+use Rattle.ff_journal.specs.Epochs.{last_begun}
+use Rattle.ff_journal.specs.Publications.{published, IsLast}
+use Rattle.ff_journal.specs.Reasons.{names_in}
+use Rattle.ff_journal.specs.Journals.{IsSaid, commands_of}
+use Rattle.ff_journal.specs.Shown.{AreShown, NamesFit}
+use Rattle.ff_journal.specs.Waiting.{IsBoardCommand, IsNotPublished}
+use Rattle.ff_journal.proofs.Right.{nameless}
+use Rattle.ff_core.specs.declared.events.Step.TheVariants as step
+use Rattle.ff_core.specs.States.{State, ShowsLast, StandsFor, IsSameButPages}
+use Rattle.ff_core.specs.Steps.{Says, WorksOnAfter, IsReopened}
+use Rattle.ff_core.proofs.AfterSaying.{said_in, entered_stands, entered_says, begun_room, taken_back, not_empty}
+use Rattle.std.specs.Prelude.{IfSome}
+use Rattle.ff_core.specs.Paged.{AnswersLast}
+use Rattle.ff_core.proofs.Kept.{shown_are, something_shown}
+
+-- ---- what is published
+
+pub some_published : (j : List Entry) (said : Command) → ((e : ℕ) → IsNotPublished j said e → ⊥) → 0 < published j
+some_published j said h = by (published j) refl
+  where
+    by : (n : ℕ) → published j ≡ n → 0 < published j
+    by zero e = absurd (h 0 (inl (e, refl)))
+    by (suc n) e = omega (arith, e)
+
+pub last_published : (j : List Entry) (said : Command) → ((e : ℕ) → IsNotPublished j said e → ⊥) → published j ≤ last_begun j + 1
+    → IsBoardCommand said → published j ≡ last_begun j + 1
+last_published j said h few b = elim (at_most_or (published j) (last_begun j)) [
+  | inl l ↦ absurd (h (last_begun j) (inr (some_published j said h, b, l, refl)))
+  | inr l ↦ omega (arith, few, l)
+]
+
+-- ---- the shown facts
+
+pub shown_last : (case : Case) (core : State) (fs : List (Option Fact)) → StandsFor case core → core.shown ≡ Some fs
+    → (e : ℕ) (board : List (Option Order)) → IsLast core.journal e (outcome.Board board) → AreShown case core.journal e (outcome.Board board) fs
+shown_last case core fs stands is e board l = shown_are case core.journal fs e (outcome.Board board) (subst (λ o. ShowsLast case core.journal o) is stands.shows) l
+
+pub shown_there : (case : Case) (core : State) → StandsFor case core → 0 < published core.journal → core.shown ≡ None → ⊥
+shown_there case core stands some none = something_shown case core.journal core.shown stands.shows some none
+
+-- ---- questions that are asked of pages
+
+nothing_named : (case : Case) (o : Option (List (Option Fact))) (e : Entry) → names_in e ≡ [] → NamesFit case o e
+nothing_named case None e none = λ m c. let h : Contains [] m = subst (λ xs. Contains xs m) none c in absurd (omega (arith, h.1))
+nothing_named case (Some fs) e none = λ m c. let h : Contains [] m = subst (λ xs. Contains xs m) none c in absurd (omega (arith, h.1))
+
+pub asked_said : (case : Case) (budget : ℕ) (j : List Entry) (viewer : ℕ) (said : Command) (q : Question) (told : Reply) → said ≡ command.Ask q
+    → names_in (entry.Said viewer (length (commands_of viewer j)) (command.Ask q) told) ≡ [] → AnswersLast case budget j q told
+    → IsSaid case budget j viewer (length (commands_of viewer j)) said told
+asked_said case budget j viewer said q told is none (e, last, l, a) = subst (λ x. IsSaid case budget j viewer (length (commands_of viewer j)) x told) (sym is)
+    (nameless case budget j e last viewer (command.Ask q) told l none a)
+
+pub asked_names : (case : Case) (o : Option (List (Option Fact))) (j : List Entry) (viewer : ℕ) (said : Command) (q : Question) (told : Reply) → said ≡ command.Ask q
+    → names_in (entry.Said viewer (length (commands_of viewer j)) (command.Ask q) told) ≡ []
+    → NamesFit case o (entry.Said viewer (length (commands_of viewer j)) said told)
+asked_names case o j viewer said q told is none = subst (λ x. NamesFit case o (entry.Said viewer (length (commands_of viewer j)) x told)) (sym is)
+    (nothing_named case o (entry.Said viewer (length (commands_of viewer j)) (command.Ask q) told) none)
+
+-- ---- other pages
+
+-- the state with the pages of another
+pub same_state : (old mid : State) → IsSameButPages old mid → mid ≡ record old { pages = mid.pages }
+same_state old mid same i = record { journal = same.journal i; budget = same.budget i; working = same.working i; shown = same.shown i; pages = mid.pages }
+
+pub same_self : (s : State) → IsSameButPages s s
+same_self s = record { journal = refl; budget = refl; working = refl; shown = refl }
+
+pub same_then : (a b c : State) → IsSameButPages a b → IsSameButPages b c → IsSameButPages a c
+same_then a b c s t = record {
+  journal = t.journal ∙ s.journal;
+  budget = t.budget ∙ s.budget;
+  working = t.working ∙ s.working;
+  shown = t.shown ∙ s.shown;
+}
+
+pub same_kept : (a b c : State) → IsSameButPages a b → c ≡ b → IsSameButPages a c
+same_kept a b c s e = subst (λ x. IsSameButPages a x) (sym e) s
+
+-- a right reply, entered in a state with other pages
+pub said_on : (case : Case) (old mid : State) (viewer : ℕ) (said : Command) (told copied : Reply) → IsSameButPages old mid → copied ≡ told
+    → IsSaid case old.budget old.journal viewer (length (commands_of viewer old.journal)) said told
+    → IsSaid case mid.budget mid.journal viewer (length (commands_of viewer mid.journal)) said copied
+said_on case old mid viewer said told copied same is h =
+    subst (λ (x : State). IsSaid case x.budget x.journal viewer (length (commands_of viewer x.journal)) said copied) (sym (same_state old mid same))
+    (subst (λ r. IsSaid case old.budget old.journal viewer (length (commands_of viewer old.journal)) said r) (sym is) h)
+
+pub names_on : (case : Case) (old mid : State) (viewer : ℕ) (said : Command) (told copied : Reply) → IsSameButPages old mid → copied ≡ told
+    → NamesFit case old.shown (entry.Said viewer (length (commands_of viewer old.journal)) said told)
+    → NamesFit case mid.shown (entry.Said viewer (length (commands_of viewer mid.journal)) said copied)
+names_on case old mid viewer said told copied same is h =
+    subst (λ (x : State). NamesFit case x.shown (entry.Said viewer (length (commands_of viewer x.journal)) said copied)) (sym (same_state old mid same))
+    (subst (λ r. NamesFit case old.shown (entry.Said viewer (length (commands_of viewer old.journal)) said r)) (sym is) h)
+
+-- what an entry changes
+abbrev pub Enters : Case → State → ℕ → Command → Reply → State → Type 0
+Enters case old viewer said told new = (new.journal ≡ old.journal ++ entry.Said viewer (length (commands_of viewer old.journal)) said told ∷ [])
+    × (new.budget ≡ old.budget) × (new.shown ≡ old.shown) × WorksOnAfter case old new
+
+pub says_on : (case : Case) (old mid new : State) (viewer : ℕ) (said : Command) (told copied : Reply) → IsSameButPages old mid → copied ≡ told
+    → ((e : ℕ) → IsNotPublished old.journal said e → ⊥) → Enters case mid viewer said copied new → Says case old viewer said new (step.Said told)
+says_on case old mid new viewer said told copied same is free h =
+    let g : Enters case old viewer said told new = subst (λ r. Enters case old viewer said r new) is
+    (subst (λ x. Enters case x viewer said copied new) (same_state old mid same) h) in
+    (free, g.0, g.1, g.2, g.3)
+
+-- ---- an entry is made
+
+-- an entry of a viewer, once an epoch that it begins is opened
+pub entered_all : (case : Case) (old new : State) (j : List Entry) (viewer index : ℕ) (said : Command) (told : Reply) → StandsFor case old
+    → j ≡ old.journal ++ entry.Said viewer index said told ∷ [] → index ≡ length (commands_of viewer old.journal)
+    → IsSaid case old.budget old.journal viewer (length (commands_of viewer old.journal)) said told
+    → NamesFit case old.shown (entry.Said viewer (length (commands_of viewer old.journal)) said told)
+    → IsReopened case (record old { journal = j }) new → StandsFor case new × Enters case old viewer said told new
+entered_all case old new j viewer index said told stands added number is fit r =
+    let n = length (commands_of viewer old.journal) in
+    let added_there : j ≡ old.journal ++ entry.Said viewer n said told ∷ [] = added ∙ ap (λ k. old.journal ++ entry.Said viewer k said told ∷ []) number in
+    let here : IsReopened case (said_in old viewer n said told) new = subst (λ x. IsReopened case (record old { journal = x }) new) added_there r in
+    (entered_stands case old new viewer n said told stands is fit here, entered_says case old new viewer n said told stands here)
+
+-- there is room to open an epoch
+pub entered_room : (case : Case) (budget : ℕ) (before j : List Entry) (viewer index : ℕ) (said : Command) (told : Reply)
+    → j ≡ before ++ entry.Said viewer index said told ∷ []
+    → IsSaid case budget before viewer (length (commands_of viewer before)) said told → last_begun j ≤ length before
+entered_room case budget before j viewer index said told added is =
+    let c = is.published.counted in
+    subst (λ x. last_begun x ≤ length before) (sym added) (begun_room before viewer index said told (omega (arith, c)))
+
+-- the entry is taken back
+pub popped : (o : Option Entry) (j now new : List Entry) (s : Entry) → now ≡ j ++ s ∷ [] → IfSome o (λ item. now ≡ new ++ item ∷ [])
+    → (o ≡ None → (now ≡ []) × (new ≡ [])) → new ≡ j
+popped None j now new s added some none = absurd (not_empty j s (sym added ∙ (none refl).0))
+popped (Some item) j now new s added some none = taken_back j new s item (sym added ∙ some)

@@ -1,0 +1,11 @@
+mod Standing
+mod AfterSaying
+mod AfterPublishing
+mod Opened
+mod Scanned
+mod Refuted
+mod Kept
+mod Choosing
+mod Filled
+mod Ran
+mod Heard
