@@ -1,0 +1,3 @@
+mod Deduced
+mod Quieted
+mod Commands

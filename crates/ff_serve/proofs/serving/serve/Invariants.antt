@@ -1,0 +1,13 @@
+use Rattle.std.proofs.Common.{◌≡◌, ℕ, ◌+◌, ◌*◌, ◌≤◌, length, take}
+use Rattle.ff_core.specs.States.{StandsFor}
+use Rattle.ff_serve.specs.Served.{AllPublished, AreServed, commands_in}
+use Rattle.ff_serve.proofs.serving.serve.Given as goal
+
+abbrev pub invariant-loop-viewer : goal.invariant-loop-viewer
+invariant-loop-viewer g l = record {
+  stands : StandsFor l.case l.core;
+  few : length l.core.journal ≤ 1 + 2 * commands_in (take l.viewer l.scripts);
+  all : AllPublished l.core.journal;
+  served : AreServed l.scripts l.viewer 0 l.core.journal;
+  budget : l.core.budget ≡ l.budget;
+}
