@@ -1,0 +1,7 @@
+use Rattle.std.proofs.Common.{◌≡◌, ◌++◌, take, string_bytes}
+use Rattle.std.specs.List.{flat_map}
+use Rattle.ff_transcript.specs.Boards.{value_sign}
+use Rattle.ff_transcript.proofs.boards.push_values.Given as goal
+
+abbrev pub invariant-loop-i : goal.invariant-loop-i
+invariant-loop-i l = string_bytes l.text ≡ string_bytes l.fn.text ++ flat_map value_sign (take l.i l.values)

@@ -1,0 +1,4 @@
+pub mod Boards
+pub mod Reasons
+pub mod Replies
+pub mod Entries
