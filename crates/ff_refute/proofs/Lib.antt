@@ -1,6 +1,6 @@
-mod Claims
+pub mod Claims
 mod OneMore
-mod Makes
+pub mod Makes
 mod Marked
 mod Written
 mod Stepping

@@ -8,6 +8,7 @@ use Rattle.ff_report.specs.declared.parts.PartOutcome.{PartOutcome}
 use Rattle.ff_report.specs.declared.parts.PartOutcome.TheVariants.{Solutions, None, Unfinished}
 use Rattle.ff_report.specs.Heads.{lines_of}
 use Rattle.ff_report.specs.Refusals.{spaced}
+use Rattle.ff_report.specs.Logs.{log_lines}
 
 -- `part K variables` and the numbers of its variables
 abbrev pub part_line : ℕ → List ℕ → List ℕ
@@ -26,10 +27,10 @@ solution_line i values = codes "solution " ++ decimal i ++ codes " " ++ flat_map
 abbrev pub solution_of : List (List Order) → ℕ → List ℕ
 solution_of solutions i = solution_line i (slice_index_or solutions i [])
 
--- `solutions S` and S lines, `none`, or `unfinished`
+-- `solutions S` and S lines, `none` and a log, or `unfinished`
 abbrev pub outcome_lines : PartOutcome → List ℕ
 outcome_lines (Solutions solutions) = codes "solutions " ++ decimal (length solutions) ++ codes "\n" ++ lines_of (solution_of solutions) (length solutions)
-outcome_lines None = codes "none\n"
+outcome_lines (None log) = codes "none\n" ++ log_lines log.lines
 outcome_lines Unfinished = codes "unfinished\n"
 
 -- all lines of a part

@@ -3,6 +3,7 @@
 
 mod heads;
 mod lines;
+mod logs;
 mod parts;
 mod refusals;
 

@@ -1,7 +1,9 @@
 //! The lines of a report besides its head and its parts.
 ghost use Rattle.std.specs.Prelude.{◌≡◌, ◌++◌, IfOk, OnOk, string_bytes};
-ghost use Rattle.ff_report.specs.Lines.{clash_line, parts_line, last_line};
+ghost use Rattle.ff_report.specs.Lines.{clash_lines, parts_line, last_line};
 
+use crate::logs::push_log;
+use ff_log::Log;
 use ff_tables::{NoMemory, Text};
 use std::alloc::{AllocError, Global};
 
@@ -28,11 +30,13 @@ pub fn parts_text(alloc: Global, count: u32) -> Result<Text, NoMemory>
     Ok(Text::of(text))
 }
 
-/// The line where the closure clashes.
-pub fn clash_text(alloc: Global) -> Result<Text, NoMemory>
-    ensures { IfOk result (λ text. text ≡ clash_line) }
+/// The lines where the closure clashes: `clash` and a log that shows it.
+pub fn clash_text(alloc: Global, log: &Log) -> Result<Text, NoMemory>
+    ensures { IfOk result (λ text. text ≡ clash_lines log.now.lines) }
 {
-    Ok(Text::of(String::from_str(alloc, "clash\n")?))
+    let mut text = String::from_str(alloc, "clash\n")?;
+    push_log(alloc, &mut text, log)?;
+    Ok(Text::of(text))
 }
 
 /// The last line of a report.

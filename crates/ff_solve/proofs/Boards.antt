@@ -1,5 +1,5 @@
 -- The report of a board from its parts.
-use Rattle.std.proofs.Common.{◌≡◌, ℕ, List, ◌++◌, ◌∙◌, length, Option, Some, ap, sym}
+use Rattle.std.proofs.Common.{◌≡◌, ℕ, List, [], ◌++◌, ◌∙◌, length, Option, Some, Result, Ok, Err, IfOk, inl, ap, sym}
 use Rattle.std.proofs.lemmas.List.{length-map}
 use Rattle.ff_types.specs.declared.faces.Faces.{Faces}
 use Rattle.ff_types.specs.declared.faces.Folded.{Folded}
@@ -15,9 +15,13 @@ use Rattle.ff_parts.specs.Factors.{FactorsFor}
 use Rattle.ff_report.specs.declared.parts.PartOutcome.{PartOutcome}
 use Rattle.ff_report.specs.Heads.{lines_of, head}
 use Rattle.ff_report.specs.declared.lines.Last.{Last}
-use Rattle.ff_report.specs.Lines.{last_of, parts_line, last_line, part_at}
+use Rattle.ff_report.specs.declared.lines.Last.TheVariants.{Impossible}
+use Rattle.ff_log.specs.declared.logs.LogLine.{LogLine}
+use Rattle.ff_report.specs.Lines.{last_of, parts_line, clash_lines, last_line, part_at}
 use Rattle.ff_solve.specs.Outcomes.{AreOutcomes}
-use Rattle.ff_solve.specs.Reports.{IsBoardReport}
+use Rattle.ff_tables.specs.declared.memory.NoMemory.{NoMemory}
+use Rattle.ff_solve.specs.declared.reports.Report.{Report}
+use Rattle.ff_solve.specs.Reports.{IsBoardReport, IsClashReport, IsReport}
 use Rattle.ff_solve.specs.Written.{report_text}
 use Rattle.ff_solve.proofs.Pieces.{whole}
 
@@ -25,7 +29,7 @@ pub report_of_board : (faces : Faces) (folded : Folded) (case : Case) (budget : 
     → ClosesTo case.system.vars case.system.constraints case.starts (Board facts)
     → AreParts case.system.vars case.system.constraints (value_at facts) (vars_of parts)
     → FactorsFor case.system.vars case.system.constraints (value_at facts) (vars_of parts)
-    → AreOutcomes case.system.constraints (value_at facts) budget parts outcomes → last ≡ last_of outcomes
+    → AreOutcomes case (value_at facts) budget parts outcomes → last ≡ last_of outcomes
     → text ≡ head faces folded case (Some facts) ++ parts_line (length parts) ++ lines_of (part_at (vars_of parts) outcomes) (length parts) ++ last_line (last_of outcomes)
     → IsBoardReport faces folded case budget last text
 report_of_board faces folded case budget facts parts outcomes last text closes are factors o e t = record {
@@ -49,3 +53,14 @@ text_as first head other parts outcomes last count joined a b e =
     whole first parts outcomes last
     ∙ ap (λ h. h ++ lines_of (part_at (vars_of parts) outcomes) (length parts) ++ last_line last) (joined ∙ ap (λ h. h ++ count) a ∙ ap (λ n. other ++ n) b)
     ∙ ap (λ l. other ++ parts_line (length parts) ++ lines_of (part_at (vars_of parts) outcomes) (length parts) ++ last_line l) e
+
+-- the text where the closure clashes
+pub clash_as : (first head other clash : List ℕ) (log : List LogLine) → first ≡ head ++ clash → head ≡ other → clash ≡ clash_lines log
+    → report_text first [] [] Impossible ≡ other ++ clash_lines log ++ last_line Impossible
+clash_as first head other clash log joined a b = ap (λ (t : List ℕ). t ++ last_line Impossible) (joined ∙ ap (λ (h : List ℕ). h ++ clash) a ∙ ap (λ (t : List ℕ). other ++ t) b)
+
+pub clash_is_report : (faces : Faces) (folded : Folded) (case : Case) (budget : ℕ) (r : Result Report NoMemory)
+    → IfOk r (λ x. IsClashReport faces folded case x.last (report_text x.head x.parts x.outcomes x.last))
+    → IfOk r (λ x. IsReport faces folded case budget x.last (report_text x.head x.parts x.outcomes x.last))
+clash_is_report faces folded case budget (Ok x) h = inl h
+clash_is_report faces folded case budget (Err e) h = tt

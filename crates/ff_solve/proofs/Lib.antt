@@ -1,5 +1,6 @@
 mod Searching
 mod Lists
+mod NoPins
 mod Pieces
 mod Boards
 mod OneOutcome

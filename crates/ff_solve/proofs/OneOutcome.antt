@@ -7,6 +7,13 @@ use Rattle.ff_tables.specs.declared.terms.Constraint.{Constraint}
 use Rattle.ff_propagate.specs.Trees.{Tree, Clash, Full, Fork, IsTreeAt, IsBranching, IsDecidedAt, HasValues, visits}
 use Rattle.ff_report.specs.declared.parts.PartOutcome.{PartOutcome}
 use Rattle.ff_report.specs.declared.parts.PartOutcome.TheVariants as outcome
+use Rattle.std.proofs.lemmas.Bool.{false≢true}
+use Rattle.ff_types.specs.declared.cases.Case.{Case}
+use Rattle.ff_propagate.specs.Solutions.{solutions_of}
+use Rattle.ff_log.specs.declared.logs.LogLine.{LogLine}
+use Rattle.ff_log.specs.Logs.{Closes, Ground, State}
+use Rattle.ff_log.specs.Grounds.{case_ground}
+use Rattle.ff_report.proofs.AlikeTexts.{HasLines, IsShown, shape}
 use Rattle.ff_solve.specs.Outcomes.{IsOutcome, EndsWithin, GoesBeyond}
 
 -- the least undecided variable is one
@@ -42,13 +49,35 @@ same_size cons base vars tried (Fork x y) (Fork z w) (apart, (v, branch, left, r
 within_or_beyond : {A : Type 0} (cons : List Constraint) (value : ℕ → Option Order) (budget : ℕ) (part : List ℕ) → EndsWithin cons value budget part → GoesBeyond cons value budget part → A
 within_or_beyond cons value budget part (t, is, within) (u, that, beyond) = absurd (omega (arith, within, beyond, ap (λ n. length part * n) (same_size cons (λ v s. value v ≡ Some s) part [] t u is that)))
 
-pub one_outcome : (cons : List Constraint) (value : ℕ → Option Order) (budget : ℕ) (part : List ℕ) (o p : PartOutcome) → IsOutcome cons value budget part o → IsOutcome cons value budget part p → o ≡ p
+-- what a part comes to, whatever its log is
+abbrev pub Comes : List Constraint → (ℕ → Option Order) → ℕ → List ℕ → PartOutcome → Type 0
+Comes cons value budget part (outcome.Solutions list) = EndsWithin cons value budget part × (list ≡ solutions_of cons value part) × (list ≡ [] → ⊥)
+Comes cons value budget part (outcome.None log) = EndsWithin cons value budget part × (solutions_of cons value part ≡ [])
+Comes cons value budget part outcome.Unfinished = GoesBeyond cons value budget part
+
+pub comes : (case : Case) (value : ℕ → Option Order) (budget : ℕ) (part : List ℕ) (o : PartOutcome) → IsOutcome case value budget part o → Comes case.system.constraints value budget part o
+comes case value budget part (outcome.Solutions list) h = h
+comes case value budget part (outcome.None log) h = (h.0, h.1)
+comes case value budget part outcome.Unfinished h = h
+
+pub one_outcome : (cons : List Constraint) (value : ℕ → Option Order) (budget : ℕ) (part : List ℕ) (o p : PartOutcome) → Comes cons value budget part o → Comes cons value budget part p → shape o ≡ shape p
 one_outcome cons value budget part (outcome.Solutions l) (outcome.Solutions m) a b = ap outcome.Solutions (a.1 ∙ sym b.1)
-one_outcome cons value budget part (outcome.Solutions l) outcome.None a b = absurd (a.2 (a.1 ∙ b.1))
+one_outcome cons value budget part (outcome.Solutions l) (outcome.None y) a b = absurd (a.2 (a.1 ∙ b.1))
 one_outcome cons value budget part (outcome.Solutions l) outcome.Unfinished a b = within_or_beyond cons value budget part a.0 b
-one_outcome cons value budget part outcome.None (outcome.Solutions m) a b = absurd (b.2 (b.1 ∙ a.1))
-one_outcome cons value budget part outcome.None outcome.None a b = refl
-one_outcome cons value budget part outcome.None outcome.Unfinished a b = within_or_beyond cons value budget part a.0 b
+one_outcome cons value budget part (outcome.None x) (outcome.Solutions m) a b = absurd (b.2 (b.1 ∙ a.1))
+one_outcome cons value budget part (outcome.None x) (outcome.None y) a b = refl
+one_outcome cons value budget part (outcome.None x) outcome.Unfinished a b = within_or_beyond cons value budget part a.0 b
 one_outcome cons value budget part outcome.Unfinished (outcome.Solutions m) a b = within_or_beyond cons value budget part b.0 a
-one_outcome cons value budget part outcome.Unfinished outcome.None a b = within_or_beyond cons value budget part b.0 a
+one_outcome cons value budget part outcome.Unfinished (outcome.None y) a b = within_or_beyond cons value budget part b.0 a
 one_outcome cons value budget part outcome.Unfinished outcome.Unfinished a b = refl
+
+-- ---- logs have lines
+
+pub closed_has_lines : (ground : Ground) (lines : List LogLine) → Closes ground lines → HasLines lines
+closed_has_lines ground [] c = absurd (false≢true (ap (λ (s : State). s.ended) (sym c.reached) ∙ c.ended))
+closed_has_lines ground (l ∷ lines) c = (l, lines, refl)
+
+pub shown : (case : Case) (value : ℕ → Option Order) (budget : ℕ) (part : List ℕ) (o : PartOutcome) → IsOutcome case value budget part o → IsShown o
+shown case value budget part (outcome.Solutions list) h = tt
+shown case value budget part (outcome.None log) h = closed_has_lines (case_ground case []) log.lines h.2
+shown case value budget part outcome.Unfinished h = tt

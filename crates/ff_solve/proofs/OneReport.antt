@@ -1,5 +1,5 @@
--- Cases that differ at most in the places of their cites have one report.
-use Rattle.std.proofs.Common.{◌≡◌, inl, inr, ℕ, ◌∙◌, Bool, true, false, List, [], ◌++◌, length, slice_get, slice_index_or, Option, Some, None, refl, ap, sym, subst, arith}
+-- Reports of cases that differ at most in the places of their cites are one text but for their logs.
+use Rattle.std.proofs.Common.{◌≡◌, inl, inr, ℕ, suc, ◌<◌, ◌∙◌, Bool, true, false, List, [], ◌∷◌, ◌++◌, map, length, slice_get, slice_index_or, Option, Some, None, refl, ap, ap₂, sym, subst, arith}
 use Rattle.std.proofs.Math.Path.{fun_ext}
 use Rattle.std.proofs.lemmas.Bool.{false≢true}
 use Rattle.std.proofs.lemmas.List.{length-map}
@@ -16,28 +16,28 @@ use Rattle.ff_propagate.specs.Facts.{value_at}
 use Rattle.ff_propagate.specs.Closure.{Clashes, IsClosure, Gives}
 use Rattle.ff_propagate.specs.Parts.{AreParts}
 use Rattle.ff_parts.specs.Lists.{vars_of}
-use Rattle.ff_report.specs.Heads.{lines_of, counts_line, face_of, pair_line}
+use Rattle.ff_report.specs.Heads.{lines_of, counts_line, face_of, pair_line, head}
+use Rattle.ff_report.specs.Alike.{AreOneText}
+use Rattle.ff_report.proofs.AlikeTexts.{AllShown, IsShown, boards_one, clashes_one, one_as, same_last, shape, with_clash, with_parts}
+use Rattle.ff_log.specs.Grounds.{case_ground}
 use Rattle.ff_report.specs.declared.parts.PartOutcome.{PartOutcome}
 use Rattle.ff_crossings.specs.CaseLaws.{AreAlike}
-use Rattle.ff_crossings.proofs.Alike.{by_places}
 use Rattle.ff_crossings.proofs.Truth.{at_place}
 use Rattle.ff_report.specs.declared.lines.Last.{Last}
-use Rattle.ff_report.specs.declared.lines.Last.TheVariants.{Impossible}
-use Rattle.ff_report.specs.Lines.{last_of, part_at, parts_line, clash_line, last_line, clash_report, board_text}
-use Rattle.ff_solve.specs.Outcomes.{IsOutcome, AreOutcomes}
+use Rattle.ff_solve.specs.Outcomes.{AreOutcomes}
 use Rattle.ff_solve.specs.Reports.{IsReport, IsClashReport, IsBoardReport}
 use Rattle.ff_solve.specs.Laws.{ReportIsOne}
 use Rattle.ff_solve.proofs.Lists.{vars_at}
-use Rattle.ff_solve.proofs.OneOutcome.{one_outcome}
+use Rattle.ff_solve.proofs.OneOutcome.{Comes, closed_has_lines, comes, one_outcome, shown}
 use Rattle.ff_solve.proofs.OneParts.{one_parts}
 
--- the texts by what they depend on
-abbrev board_by : Faces → Folded → List (ℕ × ℕ) → ℕ → (ℕ → Option Order) → List (List ℕ) → List PartOutcome → List ℕ
-board_by faces folded pairs constraints value parts outcomes = (counts_line (length faces.rings) folded.scale (length pairs) constraints ++ lines_of (face_of faces folded) (length faces.rings)
-    ++ lines_of (λ n. pair_line n (slice_index_or pairs n (0, 0)) (value n)) (length pairs)) ++ parts_line (length parts) ++ lines_of (part_at parts outcomes) (length parts) ++ last_line (last_of outcomes)
+-- the heads by what they depend on
+abbrev board_head : Faces → Folded → List (ℕ × ℕ) → ℕ → (ℕ → Option Order) → List ℕ
+board_head faces folded pairs constraints value = counts_line (length faces.rings) folded.scale (length pairs) constraints ++ lines_of (face_of faces folded) (length faces.rings)
+    ++ lines_of (λ n. pair_line n (slice_index_or pairs n (0, 0)) (value n)) (length pairs)
 
-abbrev clash_by : Faces → Folded → ℕ → ℕ → List ℕ
-clash_by faces folded pairs constraints = (counts_line (length faces.rings) folded.scale pairs constraints ++ lines_of (face_of faces folded) (length faces.rings) ++ []) ++ clash_line ++ last_line Impossible
+abbrev clash_head : Faces → Folded → ℕ → ℕ → List ℕ
+clash_head faces folded pairs constraints = counts_line (length faces.rings) folded.scale pairs constraints ++ lines_of (face_of faces folded) (length faces.rings) ++ []
 
 -- the closures of the same givens have the same values
 same_option : (o p : Option Order) → ((s : Order) → o ≡ Some s → p ≡ Some s) → ((s : Order) → p ≡ Some s → o ≡ Some s) → o ≡ p
@@ -56,30 +56,65 @@ clash_or_closure {A} cons starts value c is = apart (sym ((is c.variable Below).
     is_above (Some Above) = true
     is_above _ = false
 
--- the searches of the same parts come to the same
+-- what parts come to, whatever their logs are
+record AreComing (cons : List Constraint) (value : ℕ → Option Order) (budget : ℕ) (parts : List Part) (outcomes : List PartOutcome) : Type 0 where
+  as_many : length outcomes ≡ length parts
+  each : (k : ℕ) (part : Part) (outcome : PartOutcome) → slice_get parts k ≡ Some part → slice_get outcomes k ≡ Some outcome → Comes cons value budget part.vars outcome
+
+are_coming : (case : Case) (value : ℕ → Option Order) (budget : ℕ) (parts : List Part) (outcomes : List PartOutcome) → AreOutcomes case value budget parts outcomes
+    → AreComing case.system.constraints value budget parts outcomes
+are_coming case value budget parts outcomes are = record {
+  as_many = are.as_many;
+  each = λ k part o e f. comes case value budget part.vars o (are.each k part o e f);
+}
+
+all_shown : (os : List PartOutcome) → ((k : ℕ) (o : PartOutcome) → slice_get os k ≡ Some o → IsShown o) → AllShown os
+all_shown [] each = tt
+all_shown (o ∷ os) each = (each 0 o refl, all_shown os (λ k p e. each (suc k) p e))
+
+are_shown : (case : Case) (value : ℕ → Option Order) (budget : ℕ) (parts : List Part) (outcomes : List PartOutcome) → AreOutcomes case value budget parts outcomes → AllShown outcomes
+are_shown case value budget parts outcomes are = all_shown outcomes (λ k o e.
+    let l : k < length parts = (let m = slice_get_within outcomes k o e in omega (arith, m, are.as_many)) in
+    let p = at_place parts k l in
+    shown case value budget p.0.vars o (are.each k p.0 o p.1 e))
+
+-- lists whose items have one shape at each place
+same_shapes : (os rs : List PartOutcome) → length os ≡ length rs → ((n : ℕ) (x y : PartOutcome) → slice_get os n ≡ Some x → slice_get rs n ≡ Some y → shape x ≡ shape y)
+    → map shape os ≡ map shape rs
+same_shapes [] [] long each = refl
+same_shapes [] (r ∷ rs) long each = absurd (omega (arith, long))
+same_shapes (o ∷ os) [] long each = absurd (omega (arith, long))
+same_shapes (o ∷ os) (r ∷ rs) long each = ap₂ (λ (x : PartOutcome) (xs : List PartOutcome). x ∷ xs) (each 0 o r refl refl)
+    (same_shapes os rs (omega (arith, long)) (λ n x y i j. each (suc n) x y i j))
+
+-- the searches of the same parts come to the same, but for logs
 same_outcomes : (cons : List Constraint) (value : ℕ → Option Order) (budget : ℕ) (ps qs : List Part) (os rs : List PartOutcome) → vars_of ps ≡ vars_of qs
-    → AreOutcomes cons value budget ps os → AreOutcomes cons value budget qs rs → os ≡ rs
-same_outcomes cons value budget ps qs os rs e a b = by_places os rs long each where
+    → AreComing cons value budget ps os → AreComing cons value budget qs rs → map shape os ≡ map shape rs
+same_outcomes cons value budget ps qs os rs e a b = same_shapes os rs long each where
   as_many : length ps ≡ length qs
   as_many = sym (length-map ps (λ (p : Part). p.vars)) ∙ ap length e ∙ length-map qs (λ (p : Part). p.vars)
 
   long : length os ≡ length rs
   long = a.as_many ∙ as_many ∙ sym b.as_many
 
-  each : (n : ℕ) (x y : PartOutcome) → slice_get os n ≡ Some x → slice_get rs n ≡ Some y → x ≡ y
+  each : (n : ℕ) (x y : PartOutcome) → slice_get os n ≡ Some x → slice_get rs n ≡ Some y → shape x ≡ shape y
   each n x y i j =
       let p = at_place ps n (let l = slice_get_within os n x i in omega (arith, l, a.as_many)) in
       let q = at_place qs n (let l = slice_get_within rs n y j in omega (arith, l, b.as_many)) in
       let same : p.0.vars ≡ q.0.vars = the (sym (vars_at ps n p.0 p.1) ∙ ap (λ l. slice_get l n) e ∙ vars_at qs n q.0 q.1) in
-      one_outcome cons value budget q.0.vars x y (subst (λ vs. IsOutcome cons value budget vs x) same (a.each n p.0 x p.1 i)) (b.each n q.0 y q.1 j) where
+      one_outcome cons value budget q.0.vars x y (subst (λ vs. Comes cons value budget vs x) same (a.each n p.0 x p.1 i)) (b.each n q.0 y q.1 j) where
         the : {v w : List ℕ} → Some v ≡ Some w → v ≡ w
         the q = cc
 
 module _ (faces : Faces) (folded : Folded) (case other : Case) (budget : ℕ) (l m : Last) (t u : List ℕ) (alike : AreAlike case other) where
-  clash_clash : IsClashReport faces folded case l t → IsClashReport faces folded other m u → (l ≡ m) × (t ≡ u)
-  clash_clash a b = (a.ends ∙ sym b.ends, a.is ∙ texts ∙ sym b.is) where
-    texts : clash_report faces folded case ≡ clash_report faces folded other
-    texts = ap (λ n. clash_by faces folded n (length case.system.constraints)) (ap length alike.pairs) ∙ ap (λ n. clash_by faces folded (length other.pairs) n) (ap length alike.constraints)
+  clash_clash : IsClashReport faces folded case l t → IsClashReport faces folded other m u → (l ≡ m) × AreOneText t u
+  clash_clash a b = (
+    a.ends ∙ sym b.ends,
+    one_as (with_clash (head faces folded other None) a.log) (with_clash (head faces folded other None) b.log) t u (a.is ∙ ap (λ (h : List ℕ). with_clash h a.log) heads) b.is
+        (clashes_one (head faces folded other None) a.log b.log (closed_has_lines (case_ground case []) a.log a.accepted) (closed_has_lines (case_ground other []) b.log b.accepted)),
+  ) where
+    heads : head faces folded case None ≡ head faces folded other None
+    heads = ap (λ n. clash_head faces folded n (length case.system.constraints)) (ap length alike.pairs) ∙ ap (λ n. clash_head faces folded (length other.pairs) n) (ap length alike.constraints)
 
   closure_there : (value : ℕ → Option Order) → IsClosure case.system.constraints (Gives case.starts) value → IsClosure other.system.constraints (Gives other.starts) value
   closure_there value is = subst (λ (cs : List Constraint). IsClosure cs (Gives other.starts) value) alike.constraints (subst (λ (gs : List Given). IsClosure case.system.constraints (Gives gs) value) alike.starts is)
@@ -87,8 +122,14 @@ module _ (faces : Faces) (folded : Folded) (case other : Case) (budget : ℕ) (l
   clashes_there : Clashes case.system.constraints (Gives case.starts) → Clashes other.system.constraints (Gives other.starts)
   clashes_there c = subst (λ (cs : List Constraint). Clashes cs (Gives other.starts)) alike.constraints (subst (λ (gs : List Given). Clashes case.system.constraints (Gives gs)) alike.starts c)
 
-  board_board : IsBoardReport faces folded case budget l t → IsBoardReport faces folded other budget m u → (l ≡ m) × (t ≡ u)
-  board_board a b = (a.ends ∙ ap last_of outcomes ∙ sym b.ends, a.is ∙ texts ∙ sym b.is) where
+  board_board : IsBoardReport faces folded case budget l t → IsBoardReport faces folded other budget m u → (l ≡ m) × AreOneText t u
+  board_board a b = (
+    a.ends ∙ same_last a.outcomes b.outcomes outcomes ∙ sym b.ends,
+    one_as (with_parts (head faces folded other (Some b.facts)) (vars_of b.parts) a.outcomes) (with_parts (head faces folded other (Some b.facts)) (vars_of b.parts) b.outcomes) t u
+        (a.is ∙ ap (λ (h : List ℕ). with_parts h (vars_of a.parts) a.outcomes) heads ∙ ap (λ ps. with_parts (head faces folded other (Some b.facts)) ps a.outcomes) parts) b.is
+        (boards_one (head faces folded other (Some b.facts)) (vars_of b.parts) a.outcomes b.outcomes outcomes
+        (are_shown case (value_at a.facts) budget a.parts a.outcomes a.outcomes_are) (are_shown other (value_at b.facts) budget b.parts b.outcomes b.outcomes_are)),
+  ) where
     values : value_at a.facts ≡ value_at b.facts
     values = one_closure other.system.constraints other.starts (value_at a.facts) (value_at b.facts) (closure_there (value_at a.facts) a.closure) b.closure
 
@@ -100,21 +141,20 @@ module _ (faces : Faces) (folded : Folded) (case other : Case) (budget : ℕ) (l
     parts : vars_of a.parts ≡ vars_of b.parts
     parts = one_parts other.system.vars other.system.constraints (value_at b.facts) (vars_of a.parts) (vars_of b.parts) parts_there b.parts_are
 
-    outcomes_there : AreOutcomes other.system.constraints (value_at b.facts) budget a.parts a.outcomes
-    outcomes_there = subst (λ (cs : List Constraint). AreOutcomes cs (value_at b.facts) budget a.parts a.outcomes) alike.constraints
-        (subst (λ (v : ℕ → Option Order). AreOutcomes case.system.constraints v budget a.parts a.outcomes) values a.outcomes_are)
+    coming_there : AreComing other.system.constraints (value_at b.facts) budget a.parts a.outcomes
+    coming_there = subst (λ (cs : List Constraint). AreComing cs (value_at b.facts) budget a.parts a.outcomes) alike.constraints
+        (subst (λ (v : ℕ → Option Order). AreComing case.system.constraints v budget a.parts a.outcomes) values (are_coming case (value_at a.facts) budget a.parts a.outcomes a.outcomes_are))
 
-    outcomes : a.outcomes ≡ b.outcomes
-    outcomes = same_outcomes other.system.constraints (value_at b.facts) budget a.parts b.parts a.outcomes b.outcomes parts outcomes_there b.outcomes_are
+    outcomes : map shape a.outcomes ≡ map shape b.outcomes
+    outcomes = same_outcomes other.system.constraints (value_at b.facts) budget a.parts b.parts a.outcomes b.outcomes parts coming_there
+        (are_coming other (value_at b.facts) budget b.parts b.outcomes b.outcomes_are)
 
-    texts : board_text faces folded case a.facts (vars_of a.parts) a.outcomes ≡ board_text faces folded other b.facts (vars_of b.parts) b.outcomes
-    texts = ap (λ ps. board_by faces folded ps (length case.system.constraints) (value_at a.facts) (vars_of a.parts) a.outcomes) alike.pairs
-        ∙ ap (λ cs. board_by faces folded other.pairs (length cs) (value_at a.facts) (vars_of a.parts) a.outcomes) alike.constraints
-        ∙ ap (λ v. board_by faces folded other.pairs (length other.system.constraints) v (vars_of a.parts) a.outcomes) values
-        ∙ ap (λ vs. board_by faces folded other.pairs (length other.system.constraints) (value_at b.facts) vs a.outcomes) parts
-        ∙ ap (λ os. board_by faces folded other.pairs (length other.system.constraints) (value_at b.facts) (vars_of b.parts) os) outcomes
+    heads : head faces folded case (Some a.facts) ≡ head faces folded other (Some b.facts)
+    heads = ap (λ ps. board_head faces folded ps (length case.system.constraints) (value_at a.facts)) alike.pairs
+        ∙ ap (λ cs. board_head faces folded other.pairs (length cs) (value_at a.facts)) alike.constraints
+        ∙ ap (λ v. board_head faces folded other.pairs (length other.system.constraints) v) values
 
-  pub one_report : IsReport faces folded case budget l t → IsReport faces folded other budget m u → (l ≡ m) × (t ≡ u)
+  pub one_report : IsReport faces folded case budget l t → IsReport faces folded other budget m u → (l ≡ m) × AreOneText t u
   one_report (inl a) (inl b) = clash_clash a b
   one_report (inl a) (inr b) = clash_or_closure other.system.constraints other.starts (value_at b.facts) (clashes_there a.clashes) b.closure
   one_report (inr a) (inl b) = clash_or_closure other.system.constraints other.starts (value_at a.facts) b.clashes (closure_there (value_at a.facts) a.closure)

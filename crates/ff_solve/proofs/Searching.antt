@@ -15,9 +15,7 @@ use Rattle.ff_solver.specs.declared.state.Search.{Search}
 use Rattle.ff_solver.specs.declared.state.Advance.{Advance}
 use Rattle.ff_solver.specs.declared.state.Advance.TheVariants.{Found, Finished, Spent}
 use Rattle.ff_solver.specs.Searches.{StandsAt, GoesOn, AnswersIn, IsAdvance, IsSameSearch}
-use Rattle.ff_report.specs.declared.parts.PartOutcome.{PartOutcome}
-use Rattle.ff_report.specs.declared.parts.PartOutcome.TheVariants.{Unfinished}
-use Rattle.ff_solve.specs.Outcomes.{IsOutcome, outcome_with}
+use Rattle.ff_solve.specs.Outcomes.{EndsWithin, GoesBeyond}
 
 -- The search of these facts and this part has come so far within the budget, and found these solutions.
 pub record HasGathered (cons : List Constraint) (facts : List (Option Fact)) (part : List ℕ)
@@ -42,9 +40,6 @@ paid_more cost before steps budget l m = let e : cost * (before + steps) ≡ cos
 
 paid_less : (cost before steps budget : ℕ) → cost * before ≤ budget → budget - cost * before < cost * (steps + 1) → budget < cost * (before + steps + 1)
 paid_less cost before steps budget l m = let e : cost * (before + steps + 1) ≡ cost * before + cost * (steps + 1) = omega arith in omega (arith, l, m, e)
-
-no_cons : (values : List Order) (rest : List (List Order)) → (values ∷ rest) ≡ [] → ⊥
-no_cons values rest e = let n : suc (length rest) ≡ 0 = ap length e in omega (arith, n)
 
 module _ (cons : List Constraint) (facts : List (Option Fact)) (part : List ℕ) (budget : ℕ) (s t : Search) (solutions : List (List Order))
     (turns : ℕ) (answer : Advance) (h : HasGathered cons facts part budget s solutions) (goes_on : GoesOn cons s t) (kept : IsSameSearch s t)
@@ -89,34 +84,32 @@ module _ (cons : List Constraint) (facts : List (Option Fact)) (part : List ℕ)
   within n e l = subst (λ (m : ℕ). length part * m ≤ budget) e l
 
   -- the tree has ended
-  pub ended : answer ≡ Finished → (o : PartOutcome) → o ≡ outcome_with solutions → IsOutcome cons (value_at facts) budget part o
-  ended r o e = subst (λ (x : PartOutcome). IsOutcome cons (value_at facts) budget part x) (sym e) (by solutions whole) where
-    b : IsAdvance stands.tree (length s.part.vars) turns s.visited t.visited Finished
-    b = called Finished r stands.tree is_ours
+  b_ended : answer ≡ Finished → IsAdvance stands.tree (length s.part.vars) turns s.visited t.visited Finished
+  b_ended r = called Finished r stands.tree is_ours
 
-    nothing : length (visits stands.tree) - t.visited ≡ 0
-    nothing = sym (length-drop t.visited (visits stands.tree)) ∙ ap length b.advances.ended
+  all_seen : answer ≡ Finished → t.visited ≡ length (visits stands.tree)
+  all_seen r =
+      let nothing : length (visits stands.tree) - t.visited ≡ 0 = sym (length-drop t.visited (visits stands.tree)) ∙ ap length (b_ended r).ended in
+      let l : t.visited ≤ length (visits stands.tree) = stands.is_in.within in
+      omega (arith, nothing, l)
 
-    all_seen : t.visited ≡ length (visits stands.tree)
-    all_seen = let l : t.visited ≤ length (visits stands.tree) = stands.is_in.within in omega (arith, nothing, l)
+  -- with all solutions
+  pub ended_whole : answer ≡ Finished → solutions ≡ solutions_of cons (value_at facts) part
+  ended_whole r =
+      let before : found (take s.visited (visits stands.tree)) ≡ solutions = h.gathered stands.tree is_ours in
+      let now : found (take t.visited (visits stands.tree)) ≡ solutions ++ [] = (b_ended r).solutions ∙ ap (λ (l : List (List Order)). l ++ []) before in
+      let all : found (take t.visited (visits stands.tree)) ≡ found (visits stands.tree) = ap found (take_all t.visited (visits stands.tree) (omega (arith, all_seen r))) in
+      let those : found (visits stands.tree) ≡ solutions_of cons (value_at facts) part = subst (λ (p : List ℕ). found (visits stands.tree) ≡ solutions_of cons (value_at facts) p) part_now stands.is_in.solutions in
+      sym (append-nil solutions) ∙ sym now ∙ all ∙ those
 
-    whole : solutions ≡ solutions_of cons (value_at facts) part
-    whole =
-        let before : found (take s.visited (visits stands.tree)) ≡ solutions = h.gathered stands.tree is_ours in
-        let now : found (take t.visited (visits stands.tree)) ≡ solutions ++ [] = b.solutions ∙ ap (λ (l : List (List Order)). l ++ []) before in
-        let all : found (take t.visited (visits stands.tree)) ≡ found (visits stands.tree) = ap found (take_all t.visited (visits stands.tree) (omega (arith, all_seen))) in
-        let those : found (visits stands.tree) ≡ solutions_of cons (value_at facts) part = subst (λ (p : List ℕ). found (visits stands.tree) ≡ solutions_of cons (value_at facts) p) part_now stands.is_in.solutions in
-        sym (append-nil solutions) ∙ sym now ∙ all ∙ those
-
-    paid : turns_of part stands.tree ≤ budget
-    paid = within t.visited all_seen (subst (λ (p : List ℕ). length p * t.visited ≤ budget) part_now (paid_now b.steps b.counted b.advances.covered))
-
-    by : (list : List (List Order)) → list ≡ solutions_of cons (value_at facts) part → IsOutcome cons (value_at facts) budget part (outcome_with list)
-    by [] e = ((stands.tree, is_ours, paid), sym e)
-    by (values ∷ rest) e = ((stands.tree, is_ours, paid), e, λ n. no_cons values rest n)
+  -- and within the budget
+  pub ended_within : answer ≡ Finished → EndsWithin cons (value_at facts) budget part
+  ended_within r =
+      let paid : length part * t.visited ≤ budget = subst (λ (p : List ℕ). length p * t.visited ≤ budget) part_now (paid_now (b_ended r).steps (b_ended r).counted (b_ended r).advances.covered) in
+      (stands.tree, is_ours, within t.visited (all_seen r) paid)
 
   -- the turns don't cover the next node
-  pub spent : answer ≡ Spent → IsOutcome cons (value_at facts) budget part Unfinished
+  pub spent : answer ≡ Spent → GoesBeyond cons (value_at facts) budget part
   spent r = (stands.tree, is_ours, beyond) where
     b : IsAdvance stands.tree (length s.part.vars) turns s.visited t.visited Spent
     b = called Spent r stands.tree is_ours

@@ -13,6 +13,7 @@ use Rattle.ff_parts.specs.Factors.{Factors}
 use Rattle.ff_crossings.specs.CaseLaws.{AreAlike}
 use Rattle.ff_crossings.specs.Pins.{AreListedPins, with_pins}
 use Rattle.ff_report.specs.declared.lines.Last.{Last}
+use Rattle.ff_report.specs.Alike.{AreOneText}
 use Rattle.ff_solve.specs.Choices.{IsKept, AreStackings}
 use Rattle.ff_solve.specs.Reports.{IsReport}
 
@@ -40,7 +41,7 @@ abbrev pub StartClashHasNone : Type 0
 StartClashHasNone = (g : Sheet) (case : Case) → IsTrueTo g case → Clashes case.system.constraints (Gives case.starts)
     → (above : ℕ → ℕ → Bool) → IsKept g [] above → ⊥
 
--- Cases that differ at most in the places of their cites have one report.
+-- Reports of cases that differ at most in the places of their cites end alike and are one text but for their logs.
 abbrev pub ReportIsOne : Type 0
 ReportIsOne = (faces : Faces) (folded : Folded) (case other : Case) (budget : ℕ) (l m : Last) (t u : List ℕ) → AreAlike case other
-    → IsReport faces folded case budget l t → IsReport faces folded other budget m u → (l ≡ m) × (t ≡ u)
+    → IsReport faces folded case budget l t → IsReport faces folded other budget m u → (l ≡ m) × AreOneText t u

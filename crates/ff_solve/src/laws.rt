@@ -1,7 +1,7 @@
 //! Laws of reports.
 ghost use Rattle.ff_solve.specs.Laws.{ChoicesAreStackings, ClashHasNone, ReportIsOne, StartClashHasNone, StartsAreStackings};
 
-/// Cases that differ at most in the places of their cites have one report.
+/// Reports of cases that differ at most in the places of their cites end alike and are one text but for their logs.
 pub fn report_is_one()
     ensures { ReportIsOne }
 {}

@@ -3,6 +3,7 @@
 
 mod laws;
 mod outcomes;
+mod refuting;
 mod reports;
 
 pub use laws::{report_is_one, stackings_are_choices};

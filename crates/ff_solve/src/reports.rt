@@ -2,16 +2,17 @@
 ghost use Rattle.std.specs.Prelude.{◌≡◌, suc, ◌<◌, ◌++◌, ◌^◌, IfOk, length};
 ghost use Rattle.ff_propagate.specs.Facts.{value_at};
 ghost use Rattle.ff_propagate.specs.Closing.{ClosesTo};
-ghost use Rattle.ff_propagate.specs.declared.facts.Closed.TheVariants.{Board};
+ghost use Rattle.ff_propagate.specs.declared.facts.Closed.TheVariants.{Board, Clash};
 ghost use Rattle.ff_parts.specs.Lists.{vars_of};
 ghost use Rattle.ff_report.specs.Heads.{FitFolding};
-ghost use Rattle.ff_report.specs.Lines.{clash_report, part_at};
-ghost use Rattle.ff_solve.specs.Reports.{IsReport};
+ghost use Rattle.ff_report.specs.Lines.{part_at};
+ghost use Rattle.ff_solve.specs.Reports.{IsClashReport, IsReport};
 ghost use Rattle.ff_solve.specs.Written.{AreReported, piece_at, report_text};
 
 use crate::outcomes::{ending, outcomes_of};
+use crate::refuting::clash_log;
 use ff_parts::parts;
-use ff_propagate::{Closed, Facts, Part, close};
+use ff_propagate::{ClashAt, Closed, Facts, Part, close};
 use ff_report::{Last, PartOutcome, clash_text, head_text, last_text, part_text, parts_text};
 use ff_tables::{Items, NoMemory, Text};
 use ff_types::{Case, Faces, Folded};
@@ -106,13 +107,16 @@ fn report_clash(
     faces: &Faces,
     folded: &Folded,
     case: &Case,
+    facts: &Facts,
+    at: ClashAt,
 ) -> Result<Report, NoMemory>
     requires folding { FitFolding faces.now folded.now }
-    ensures { IfOk result (λ r. (r.last ≡ Last.Impossible)
-        × (report_text r.head r.parts r.outcomes r.last ≡ clash_report faces.now folded.now case.now)) }
+    requires clash { ClosesTo case.now.system.vars case.now.system.constraints case.now.starts (Clash facts.now at) }
+    ensures { IfOk result (λ r. IsClashReport faces.now folded.now case.now r.last (report_text r.head r.parts r.outcomes r.last)) }
 {
+    let log = clash_log(alloc, case, facts, at)?;
     let head = head_text(alloc, faces, folded, case, None)?;
-    let clash = clash_text(alloc)?;
+    let clash = clash_text(alloc, &log)?;
     Ok(Report {
         head: joined(alloc, &head, &clash)?,
         parts: Items::of(Vec::new(alloc)),
@@ -135,6 +139,6 @@ pub fn report_of(
 {
     match close(alloc, &case.system, &case.starts)? {
         Closed::Board(facts) => report_board(alloc, faces, folded, case, &facts, budget),
-        Closed::Clash { .. } => report_clash(alloc, faces, folded, case),
+        Closed::Clash { facts, at } => report_clash(alloc, faces, folded, case, &facts, at),
     }
 }

@@ -15,12 +15,14 @@ use Rattle.ff_problem.proofs.OneProblem.{problem_is_one, problems_are_not_refuse
 use Rattle.ff_report.specs.Refusals.{refusal_line}
 use Rattle.ff_report.specs.declared.lines.Last.{Last}
 use Rattle.ff_report.specs.declared.lines.Last.TheVariants as last
+use Rattle.ff_report.specs.Alike.{AreOneText}
+use Rattle.ff_report.proofs.AlikeTexts.{same_one}
 use Rattle.ff_solve.specs.Reports.{IsReport}
 use Rattle.ff_solve.proofs.OneReport.{one_report}
 use Rattle.ff_top.specs.Texts.{usage_line}
 use Rattle.ff_top.specs.Asking.{budget_in, AsksSolve}
 use Rattle.ff_top.specs.Solving.{ReadsProblem, ReadsRefused, IsRefused, IsSolved, AnswersSolve, status_of}
-use Rattle.ff_top.specs.Answer.{IsAnswer, AnswersTo}
+use Rattle.ff_top.specs.Answer.{IsAnswer, AnswersTo, OneAnswer}
 use Rattle.ff_top.specs.declared.status.Status.{Status}
 use Rattle.ff_top.specs.declared.status.Status.TheVariants.{Done, Impossible, Refused, Unfinished, ReadFault, WriteFault, NoMemory, Usage}
 use Rattle.ff_top.proofs.SamePatterns.{problem_there, refused_there}
@@ -58,7 +60,7 @@ same_problem input faces others folded other case second a b =
     let e = reading_is_one.pattern input a.pattern b.pattern a.read b.read in
     problem_is_one b.pattern faces others folded other case second (problem_there a.pattern b.pattern e.0 e.1 e.2 faces folded case a.problem) b.problem
 
-solved_once : (input : List ℕ) (budget : ℕ) (l m : Last) (x y : List ℕ) → IsSolved input budget l x → IsSolved input budget m y → (l ≡ m) × (x ≡ y)
+solved_once : (input : List ℕ) (budget : ℕ) (l m : Last) (x y : List ℕ) → IsSolved input budget l x → IsSolved input budget m y → (l ≡ m) × AreOneText x y
 solved_once input budget l m x y a b = one_report b.faces b.folded a.case b.case budget l m x y same.alike there b.report where
   same : AreSameProblems a.faces b.faces a.folded b.folded a.case b.case
   same = same_problem input a.faces b.faces a.folded b.folded a.case b.case a.reads b.reads
@@ -83,9 +85,9 @@ view budget input WriteFault text h = absurd h
 view budget input NoMemory text h = absurd h
 view budget input Usage text h = absurd h
 
-pub one_view : (budget : ℕ) (input : List ℕ) (s t : Status) (x y : List ℕ) → Views budget input s x → Views budget input t y → (s ≡ t) × (x ≡ y)
+pub one_view : (budget : ℕ) (input : List ℕ) (s t : Status) (x y : List ℕ) → Views budget input s x → Views budget input t y → (s ≡ t) × AreOneText x y
 unfolding Views
-one_view budget input s t x y (inl (e, (q, a, f))) (inl (d, (r, b, g))) = (e ∙ sym d, f ∙ ap refusal_line (one_refusal input q r a b) ∙ sym g)
+one_view budget input s t x y (inl (e, (q, a, f))) (inl (d, (r, b, g))) = (e ∙ sym d, same_one x y (f ∙ ap refusal_line (one_refusal input q r a b) ∙ sym g))
 one_view budget input s t x y (inl (e, (q, a, f))) (inr (l, d, b)) = absurd (not_refused input q b.faces b.folded b.case a b.reads)
 one_view budget input s t x y (inr (l, d, b)) (inl (e, (q, a, f))) = absurd (not_refused input q b.faces b.folded b.case a b.reads)
 one_view budget input s t x y (inr (l, d, a)) (inr (m, e, b)) = let o = solved_once input budget l m x y a b in (d ∙ ap status_of o.0 ∙ sym e, o.1)
@@ -100,15 +102,12 @@ usage_view input ReadFault text h = absurd h
 usage_view input WriteFault text h = absurd h
 usage_view input NoMemory text h = absurd h
 
-one_to : (o : Option ℕ) (input : List ℕ) (s t : Status) (x y : List ℕ) → AnswersTo o input s x → AnswersTo o input t y → (s ≡ t) × (x ≡ y)
-one_to None input s t x y a b = let u = usage_view input s x a in let v = usage_view input t y b in (u.0 ∙ sym v.0, u.1 ∙ sym v.1)
+one_to : (o : Option ℕ) (input : List ℕ) (s t : Status) (x y : List ℕ) → AnswersTo o input s x → AnswersTo o input t y → (s ≡ t) × AreOneText x y
+one_to None input s t x y a b = let u = usage_view input s x a in let v = usage_view input t y b in (u.0 ∙ sym v.0, same_one x y (u.1 ∙ sym v.1))
 one_to (Some budget) input s t x y a b = one_view budget input s t x y (view budget input s x a) (view budget input t y b)
 
-pub one_status : (words : List (List ℕ)) (input : List ℕ) (s t : Status) (x y : List ℕ) → IsAnswer words input s x → IsAnswer words input t y → s ≡ t
-one_status words input s t x y a b = (one_to (budget_in words) input s t x y a b).0
-
-pub one_text : (words : List (List ℕ)) (input : List ℕ) (s t : Status) (x y : List ℕ) → IsAnswer words input s x → IsAnswer words input t y → x ≡ y
-one_text words input s t x y a b = (one_to (budget_in words) input s t x y a b).1
+pub one_answer : OneAnswer
+one_answer words input s t x y a b = one_to (budget_in words) input s t x y a b
 
 -- no answer is a fault
 no_fault : (o : Option ℕ) (input : List ℕ) (status : Status) (text : List ℕ) → AnswersTo o input status text → (status ≡ WriteFault) ⊎ (status ≡ ReadFault) → ⊥

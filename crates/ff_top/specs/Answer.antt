@@ -1,7 +1,7 @@
 -- What the program answers and writes. This project's own.
 use Rattle.std.specs.Prelude.{ℕ, ◌≡◌, ◌⊎◌, IfSome, List, [], Option, Some, None}
+use Rattle.ff_report.specs.Alike.{AreOneText}
 use Rattle.ff_top.specs.Texts.{usage_line}
-use Rattle.ff_top.specs.Alike.{AreAlike}
 use Rattle.ff_top.specs.Asking.{budget_in}
 use Rattle.ff_top.specs.Solving.{AnswersSolve}
 use Rattle.ff_top.specs.Transfer.{Tells, Got, GotFront, GotPart}
@@ -18,14 +18,10 @@ AnswersTo (Some budget) input status text = AnswersSolve budget input status tex
 abbrev pub IsAnswer : List (List ℕ) → List ℕ → Status → List ℕ → Type 0
 IsAnswer words input status text = AnswersTo (budget_in words) input status text
 
--- Two answers to the words and an input have one status, and their texts are alike.
-abbrev pub AnswersAreAlike : Type 0
-AnswersAreAlike = (words : List (List ℕ)) (input : List ℕ) (s t : Status) (x y : List ℕ) → IsAnswer words input s x → IsAnswer words input t y
-    → (s ≡ t) × AreAlike x y
-
--- No report has a log yet, so that they are even the same: the words and an input have one answer.
+-- Two answers to the words and an input have one status, and their texts are alike but for logs, and the same where no log stands in them.
 abbrev pub OneAnswer : Type 0
-OneAnswer = (words : List (List ℕ)) (input : List ℕ) (s t : Status) (x y : List ℕ) → IsAnswer words input s x → IsAnswer words input t y → (s ≡ t) × (x ≡ y)
+OneAnswer = (words : List (List ℕ)) (input : List ℕ) (s t : Status) (x y : List ℕ) → IsAnswer words input s x → IsAnswer words input t y
+    → (s ≡ t) × AreOneText x y
 
 -- No words and no input are without an answer. It is said by what can't be, since no definition decides which it is.
 abbrev pub SomeAnswer : Type 0

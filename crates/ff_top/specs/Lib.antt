@@ -4,5 +4,4 @@ pub mod Transfer
 pub mod Asking
 pub mod Solving
 pub mod Writings
-pub mod Alike
 pub mod Answer

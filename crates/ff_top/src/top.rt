@@ -5,7 +5,7 @@ ghost use Rattle.ff_outside.specs.Streams.{Rose};
 ghost use Rattle.ff_top.specs.Transfer.{Tells, IsReadOff};
 ghost use Rattle.ff_top.specs.Asking.{AsksSolve};
 ghost use Rattle.ff_top.specs.Writings.{text_of};
-ghost use Rattle.ff_top.specs.Answer.{AnswersAreAlike, IsAnswer, IsRun, IsAnswered, IsComplete, OneAnswer, SomeAnswer};
+ghost use Rattle.ff_top.specs.Answer.{IsAnswer, IsRun, IsAnswered, IsComplete, OneAnswer, SomeAnswer};
 
 use crate::asking::solve_words;
 use crate::solving::{Outcome, refuse, solve};
@@ -86,11 +86,10 @@ pub fn run_alone<S: Source, K: Sink>(
     }
 }
 
-/// A law: two answers to the words and an input have one status, and texts that are alike but for logs. So each status of
-/// `run_alone` comes exactly where its row of `IsAnswer` holds. No report has a log yet, so that there is one answer.
+/// A law: two answers to the words and an input have one status, and texts that are alike but for logs, and the same where no log
+/// stands in them. So each status of `run_alone` comes exactly where its row of `IsAnswer` holds.
 pub fn one_answer()
-    ensures alike { AnswersAreAlike }
-    ensures one { OneAnswer }
+    ensures { OneAnswer }
 {}
 
 /// A law: no words and no input are without an answer.

@@ -9,5 +9,5 @@ abbrev pub invariant-loop-k : goal.invariant-loop-k
 invariant-loop-k l = record {
   as_many : length l.outcomes.items ≡ l.k;
   each : (k : ℕ) (part : Part) (outcome : PartOutcome) → slice_get l.parts k ≡ Some part → slice_get l.outcomes.items k ≡ Some outcome
-      → IsOutcome l.case.system.constraints (value_at l.facts) l.budget part.vars outcome;
+      → IsOutcome l.case (value_at l.facts) l.budget part.vars outcome;
 }

@@ -1,6 +1,7 @@
 -- When two texts are alike: the same but for their logs. A report may give any log that shows what it says, so its text
 -- isn't told by the input alone; the rest of it is. This project's own.
 use Rattle.std.specs.Prelude.{◌≡◌, ℕ, ◌==◌, Bool, true, false, ◌&&◌, List, [], ◌∷◌, codes, if◌then◌else◌}
+use Rattle.std.specs.List.{list_any}
 
 -- the lines of a text, each without its line feed
 abbrev pub lengthen : ℕ → List (List ℕ) → List (List ℕ)
@@ -41,3 +42,11 @@ pieces_of (line ∷ lines) = if is_log line then after_log (pieces_of lines) els
 -- text has a log they are alike exactly where their lines are the same.
 abbrev pub AreAlike : List ℕ → List ℕ → Type 0
 AreAlike x y = pieces_of (lines_in x) ≡ pieces_of (lines_in y)
+
+-- no line of the text is of a log
+abbrev pub HasNoLog : List ℕ → Type 0
+HasNoLog text = list_any is_log (lines_in text) ≡ false
+
+-- The texts are alike, and where no log stands in them they are the same.
+abbrev pub AreOneText : List ℕ → List ℕ → Type 0
+AreOneText x y = AreAlike x y × (HasNoLog x → x ≡ y)

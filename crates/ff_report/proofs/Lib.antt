@@ -1,0 +1,3 @@
+mod Cutting
+mod Spelled
+pub mod AlikeTexts
