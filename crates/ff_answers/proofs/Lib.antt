@@ -2,6 +2,7 @@ pub mod Reports
 mod Building
 pub mod Coming
 mod Deciding
+mod SomeLogs
 mod Closures
 mod Classes
 mod Ending

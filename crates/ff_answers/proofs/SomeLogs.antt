@@ -21,7 +21,7 @@ use Rattle.ff_log.specs.declared.claims.Claim.{Claim}
 use Rattle.ff_log.specs.declared.claims.Declared.{Declared}
 use Rattle.ff_log.specs.declared.logs.LogLine.{LogLine}
 use Rattle.ff_log.specs.declared.logs.LogLine.TheVariants as line
-use Rattle.ff_log.specs.Logs.{claim, with_claim, reversed, Branch, State, start, declare, hold, open_branch, close, close_from, Ground, Takes, Reaches, Closes}
+use Rattle.ff_log.specs.Logs.{claim, with_claim, reversed, Branch, State, start, declare, hold, IsDead, open_branch, close, close_from, Ground, Takes, Reaches, Closes}
 use Rattle.ff_log.specs.Grounds.{case_ground, claim_of_given, declared_in, IsAcceptedIn}
 use Rattle.ff_refute.specs.Making.{claim_of, Holds}
 use Rattle.ff_refute.proofs.Claims.{dead_claims, holds_more, holds_now}
@@ -73,13 +73,12 @@ module _ (case : Case) (sorted : AreSorted case.pairs) where
     reached = (
       declare s (declared_in case.pairs con),
       record { going = going; does = (declared_in case.pairs con, record { place = c; constraint = con; cited = cited; there = there; is = refl }, refl) },
-      close (declare s (declared_in case.pairs con)),
-      record { going = going; does = (declared_in case.pairs con, get_last s.declared (declared_in case.pairs con), dead, refl) },
-      refl,
+      (close (declare s (declared_in case.pairs con)), record { going = going; does = (declared_in case.pairs con, get_last s.declared (declared_in case.pairs con), dead, refl) }, refl),
     );
     branches = refl;
     going = going;
   } where
+    dead : IsDead (declared_in case.pairs con) s.held
     dead = dead_claims case.pairs con s.held (λ v t. (v < case.system.vars) × (a v ≡ t))
         (λ v t k. subst (λ (x : Order). Holds s.held (claim_of case.pairs v x)) k.1 (told v (omega arith) k.0))
         (λ k row has agrees. none k row has (λ j b l e. agrees j b l ((case.system.fit c con there).within j l, e)))
@@ -93,9 +92,7 @@ module _ (case : Case) (sorted : AreSorted case.pairs) where
     reached = (
       hold s (claim_of_given case.pairs g),
       record { going = going; does = (claim_of_given case.pairs g, start_at case.pairs case.starts case.valid.rising case.valid.by_creases i g e there by, refl) },
-      close (hold s (claim_of_given case.pairs g)),
-      record { going = going; does = ((both differ).0, (both differ).1, refl) },
-      refl,
+      (close (hold s (claim_of_given case.pairs g)), record { going = going; does = ((both differ).0, (both differ).1, refl) }, refl),
     );
     branches = refl;
     going = going;
@@ -154,7 +151,8 @@ module _ (case : Case) (sorted : AreSorted case.pairs) where
 
     -- both values of the variable are tried
     shut_both : (m : ℕ) (s : State) → s.ended ≡ false → m < case.system.vars
-        → ((first : Shuts ground (open_branch s (claim_of case.pairs m Below))) → Shuts ground (record first.last { held = with_claim s.held (claim_of case.pairs m Above); branches = s.branches }) → Shuts ground s)
+        → (first : Shuts ground (open_branch s (claim_of case.pairs m Below)))
+        → Shuts ground (record first.last { held = with_claim s.held (claim_of case.pairs m Above); branches = s.branches }) → Shuts ground s
     shut_both m s going l first second = record {
       lines = line.Try (pair_at case.pairs m).0 (pair_at case.pairs m).1 Below ∷ (first.lines ++ second.lines);
       last = second.last;
@@ -175,12 +173,12 @@ module _ (case : Case) (sorted : AreSorted case.pairs) where
     shut zero s a going told k = shut_whole s a going told k
     shut (suc m) s a going told k = elim (at_most_or case.system.vars m) [
       | inl l ↦ shut m s a going (λ v p q. told v (omega (arith, l, p, q)) q) k
-      | inr l ↦ shut m (open_branch s (claim_of case.pairs m Below)) (put a m Below) going (tell s.held Below)
-          (λ first. shut m (record first.last { held = with_claim s.held (claim_of case.pairs m Above); branches = s.branches }) (put a m Above) first.going (tell s.held Above)
+      | inr l ↦ shut m (open_branch s (claim_of case.pairs m Below)) (put a m Below) going (tell Below)
+          (λ first. shut m (record first.last { held = with_claim s.held (claim_of case.pairs m Above); branches = s.branches }) (put a m Above) first.going (tell Above)
           (λ second. k (shut_both m s going l first second)))
     ] where
-      tell : (held : List Claim) (t : Order) → (v : ℕ) → m ≤ v → v < case.system.vars → Holds (with_claim s.held (claim_of case.pairs m t)) (claim_of case.pairs v (put a m t v))
-      tell held t v p q = elim (same_or v m) [
+      tell : (t : Order) → (v : ℕ) → m ≤ v → v < case.system.vars → Holds (with_claim s.held (claim_of case.pairs m t)) (claim_of case.pairs v (put a m t v))
+      tell t v p q = elim (same_or v m) [
         | inl n ↦ subst (λ (x : Order). Holds (with_claim s.held (claim_of case.pairs m t)) (claim_of case.pairs v x)) (sym (put_other a m t v n))
             (holds_more (claim_of case.pairs m t) (claim_of case.pairs v (a v)) s.held (told v (omega (arith, p, n)) q))
         | inr e ↦ subst (λ (u : ℕ). Holds (with_claim s.held (claim_of case.pairs m t)) (claim_of case.pairs u (put a m t u))) (sym e)

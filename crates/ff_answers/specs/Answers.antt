@@ -4,6 +4,7 @@ use Rattle.ff_types.specs.declared.patterns.Pattern.{Pattern}
 use Rattle.ff_types.specs.declared.faces.Faces.{Faces}
 use Rattle.ff_types.specs.declared.faces.Folded.{Folded}
 use Rattle.ff_types.specs.declared.cases.Case.{Case}
+use Rattle.ff_types.specs.Pairs.{AreSorted}
 use Rattle.ff_types.specs.declared.refusals.Refusal.{Refusal}
 use Rattle.ff_types.specs.Sheets.{sheet_of}
 use Rattle.ff_types.specs.FoldedPatterns.{IsFoldedPattern}
@@ -17,7 +18,7 @@ abbrev pub FoldedPatternsCome : Type 0
 FoldedPatternsCome = (p : Pattern) (faces : Faces) (folded : Folded) → IsFoldedPattern p faces folded
     → ((r : Refusal) → RefusesCase (sheet_of p faces folded) r → ⊥) → ((case : Case) → IsProblem p faces folded case → ⊥) → ⊥
 
--- it can't be that a case has no report
+-- it can't be that a case, whose pairs are in order as those of each case of a sheet, has no report
 abbrev pub CasesHaveReports : Type 0
-CasesHaveReports = (faces : Faces) (folded : Folded) (case : Case) (budget : ℕ)
+CasesHaveReports = (faces : Faces) (folded : Folded) (case : Case) (budget : ℕ) → AreSorted case.pairs
     → ((last : Last) (text : List ℕ) → IsReport faces folded case budget last text → ⊥) → ⊥

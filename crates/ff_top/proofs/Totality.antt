@@ -56,7 +56,7 @@ module _ (input : List ℕ) (budget : ℕ) (none : (s : Status) (text : List ℕ
   folds : length input ≤ MOST_BYTES → (p : Pattern) (faces : Faces) (folded : Folded) → IsReadAs input p → IsFoldedPattern p faces folded → ⊥
   folds within p faces folded read h = folded_patterns_come h
       (λ r x. refused r (inr (within, inr (record { pattern = p; read = read; refused = inr (inr (faces, folded, h, x)) }))))
-      (λ case problem. cases_have_reports faces folded case budget (λ l text report. by_last l text
+      (λ case problem. cases_have_reports faces folded case budget problem.case_is.sorted_pairs (λ l text report. by_last l text
       (solved input faces folded case budget l text (record { within = within; pattern = p; read = read; problem = problem }) report)))
 
   of_length : (MOST_BYTES < length input) ⊎ (length input ≤ MOST_BYTES) → ⊥
