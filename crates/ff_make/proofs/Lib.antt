@@ -1,1 +1,2 @@
 mod Strips
+pub mod OneAccordion

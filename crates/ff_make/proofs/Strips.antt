@@ -21,7 +21,7 @@ Side n e a b =
     ⊎ (((e ≡ 2 * n + 1) × (a ≡ n + 1) × (b ≡ 0))
     ⊎ ((2 * n + 1 < e) × (e < 3 * n + 1) × (a + (2 * n + 1) ≡ e) × (b ≡ a + (n + 1))))))
 
-kind_of : (n e : ℕ) → (e < n) ⊎ ((e ≡ n) ⊎ (((n < e) × (e < 2 * n + 1)) ⊎ ((e ≡ 2 * n + 1) ⊎ (2 * n + 1 < e))))
+pub kind_of : (n e : ℕ) → (e < n) ⊎ ((e ≡ n) ⊎ (((n < e) × (e < 2 * n + 1)) ⊎ ((e ≡ 2 * n + 1) ⊎ (2 * n + 1 < e))))
 kind_of n e = grind arith
 
 side_of : (n e : ℕ) (x : EdgeEnds) → e < 3 * n + 1 → IsEdge n e x → Side n e x.a x.b
@@ -104,7 +104,7 @@ ends_at n e a b some (inr (inr (inl p))) = (omega (arith, some, p.0, p.1, p.2, p
 ends_at n e a b some (inr (inr (inr (inl p)))) = (omega (arith, some, p.0, p.1, p.2), omega (arith, some, p.0, p.1, p.2), λ s. absurd (omega (arith, some, s, p.0, p.1, p.2)))
 ends_at n e a b some (inr (inr (inr (inr p)))) = (omega (arith, some, p.0, p.1, p.2, p.3), omega (arith, some, p.0, p.1, p.2, p.3), λ s. absurd (omega (arith, some, s, p.0, p.1, p.2, p.3)))
 
-vertex_kind : (n v : ℕ) → (v ≤ n) ⊎ (n < v)
+pub vertex_kind : (n v : ℕ) → (v ≤ n) ⊎ (n < v)
 vertex_kind n v = grind arith
 
 near_at : (n v : ℕ) (p : Pt) → n ≤ 400 → v < 2 * n + 2 → IsVertex n v p → IsNear p

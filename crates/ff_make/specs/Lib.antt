@@ -1,1 +1,2 @@
 pub mod Accordions
+pub mod Laws

@@ -2,5 +2,7 @@
 #![tactic(auto)]
 
 mod accordions;
+mod laws;
 
 pub use accordions::make;
+pub use laws::accordion_is_one;

@@ -4,3 +4,4 @@ pub mod Logs
 pub mod Parts
 pub mod Lines
 pub mod Alike
+pub mod Summaries

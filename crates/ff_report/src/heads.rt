@@ -13,7 +13,7 @@ use ff_types::{Case, Faces, Folded, Pairs};
 use ff_whole::Pt;
 use std::alloc::{AllocError, Global};
 
-fn push_counts(
+pub(crate) fn push_counts(
     text: &mut String,
     faces: usize,
     scale: i64,

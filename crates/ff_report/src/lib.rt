@@ -6,8 +6,10 @@ mod lines;
 mod logs;
 mod parts;
 mod refusals;
+mod summaries;
 
 pub use heads::head_text;
 pub use lines::{Last, clash_text, last_text, parts_text};
 pub use parts::{PartOutcome, part_text};
 pub use refusals::refusal_text;
+pub use summaries::{Summary, summary_text};

@@ -1,5 +1,5 @@
 -- The report of a board from its parts.
-use Rattle.std.proofs.Common.{◌≡◌, ℕ, List, [], ◌++◌, ◌∙◌, length, Option, Some, Result, Ok, Err, IfOk, inl, ap, sym}
+use Rattle.std.proofs.Common.{◌≡◌, ℕ, List, [], ◌++◌, ◌∙◌, length, Option, Some, Result, Ok, Err, IfOk, inl, refl, ap, sym}
 use Rattle.std.proofs.lemmas.List.{length-map}
 use Rattle.ff_types.specs.declared.faces.Faces.{Faces}
 use Rattle.ff_types.specs.declared.faces.Folded.{Folded}
@@ -17,7 +17,7 @@ use Rattle.ff_report.specs.Heads.{lines_of, head}
 use Rattle.ff_report.specs.declared.lines.Last.{Last}
 use Rattle.ff_report.specs.declared.lines.Last.TheVariants.{Impossible}
 use Rattle.ff_log.specs.declared.logs.LogLine.{LogLine}
-use Rattle.ff_report.specs.Lines.{last_of, parts_line, clash_lines, last_line, part_at}
+use Rattle.ff_report.specs.Lines.{last_of, parts_line, clash_lines, last_line, part_at, board_text}
 use Rattle.ff_solve.specs.Outcomes.{AreOutcomes}
 use Rattle.ff_tables.specs.declared.memory.NoMemory.{NoMemory}
 use Rattle.ff_solve.specs.declared.reports.Report.{Report}
@@ -43,6 +43,26 @@ report_of_board faces folded case budget facts parts outcomes last text closes a
   outcomes_are = o;
   ends = e;
   is = t ∙ ap (λ n. head faces folded case (Some facts) ++ parts_line n ++ lines_of (part_at (vars_of parts) outcomes) n ++ last_line (last_of outcomes)) (sym (length-map parts (λ (p : Part). p.vars)));
+}
+
+-- with its own text
+pub report_as_board : (faces : Faces) (folded : Folded) (case : Case) (budget : ℕ) (facts : List (Option Fact)) (parts : List Part) (outcomes : List PartOutcome) (last : Last)
+    → ClosesTo case.system.vars case.system.constraints case.starts (Board facts)
+    → AreParts case.system.vars case.system.constraints (value_at facts) (vars_of parts)
+    → FactorsFor case.system.vars case.system.constraints (value_at facts) (vars_of parts)
+    → AreOutcomes case (value_at facts) budget parts outcomes → last ≡ last_of outcomes
+    → IsBoardReport faces folded case budget last (board_text faces folded case facts (vars_of parts) outcomes)
+report_as_board faces folded case budget facts parts outcomes last closes are factors o e = record {
+  facts = facts;
+  parts = parts;
+  outcomes = outcomes;
+  wide = closes.0.wide;
+  closure = closes.1;
+  parts_are = are;
+  factors = factors case.starts closes.1;
+  outcomes_are = o;
+  ends = e;
+  is = refl;
 }
 
 -- the text of its pieces

@@ -26,7 +26,10 @@ use Rattle.ff_crossings.proofs.Truth.{at_place}
 use Rattle.ff_report.specs.declared.lines.Last.{Last}
 use Rattle.ff_solve.specs.Outcomes.{AreOutcomes}
 use Rattle.ff_solve.specs.Reports.{IsReport, IsClashReport, IsBoardReport}
-use Rattle.ff_solve.specs.Laws.{ReportIsOne}
+use Rattle.ff_solve.specs.Laws.{ReportIsOne, SummaryIsOne}
+use Rattle.ff_solve.specs.Summaries.{IsSummary}
+use Rattle.ff_report.specs.declared.summaries.Summary.{Summary}
+use Rattle.ff_report.specs.Summaries.{decided_below}
 use Rattle.ff_solve.proofs.Lists.{vars_at}
 use Rattle.ff_solve.proofs.OneOutcome.{Comes, closed_has_lines, comes, one_outcome, shown}
 use Rattle.ff_solve.proofs.OneParts.{one_parts}
@@ -122,37 +125,36 @@ module _ (faces : Faces) (folded : Folded) (case other : Case) (budget : ℕ) (l
   clashes_there : Clashes case.system.constraints (Gives case.starts) → Clashes other.system.constraints (Gives other.starts)
   clashes_there c = subst (λ (cs : List Constraint). Clashes cs (Gives other.starts)) alike.constraints (subst (λ (gs : List Given). Clashes case.system.constraints (Gives gs)) alike.starts c)
 
+  same_values : (a : IsBoardReport faces folded case budget l t) (b : IsBoardReport faces folded other budget m u) → value_at a.facts ≡ value_at b.facts
+  same_values a b = one_closure other.system.constraints other.starts (value_at a.facts) (value_at b.facts) (closure_there (value_at a.facts) a.closure) b.closure
+
+  same_parts : (a : IsBoardReport faces folded case budget l t) (b : IsBoardReport faces folded other budget m u) → vars_of a.parts ≡ vars_of b.parts
+  same_parts a b = one_parts other.system.vars other.system.constraints (value_at b.facts) (vars_of a.parts) (vars_of b.parts) there b.parts_are where
+    there : AreParts other.system.vars other.system.constraints (value_at b.facts) (vars_of a.parts)
+    there = subst (λ (n : ℕ). AreParts n other.system.constraints (value_at b.facts) (vars_of a.parts)) alike.vars
+        (subst (λ (cs : List Constraint). AreParts case.system.vars cs (value_at b.facts) (vars_of a.parts)) alike.constraints
+        (subst (λ (v : ℕ → Option Order). AreParts case.system.vars case.system.constraints v (vars_of a.parts)) (same_values a b) a.parts_are))
+
   board_board : IsBoardReport faces folded case budget l t → IsBoardReport faces folded other budget m u → (l ≡ m) × AreOneText t u
   board_board a b = (
     a.ends ∙ same_last a.outcomes b.outcomes outcomes ∙ sym b.ends,
     one_as (with_parts (head faces folded other (Some b.facts)) (vars_of b.parts) a.outcomes) (with_parts (head faces folded other (Some b.facts)) (vars_of b.parts) b.outcomes) t u
-        (a.is ∙ ap (λ (h : List ℕ). with_parts h (vars_of a.parts) a.outcomes) heads ∙ ap (λ ps. with_parts (head faces folded other (Some b.facts)) ps a.outcomes) parts) b.is
+        (a.is ∙ ap (λ (h : List ℕ). with_parts h (vars_of a.parts) a.outcomes) heads ∙ ap (λ ps. with_parts (head faces folded other (Some b.facts)) ps a.outcomes) (same_parts a b)) b.is
         (boards_one (head faces folded other (Some b.facts)) (vars_of b.parts) a.outcomes b.outcomes outcomes
         (are_shown case (value_at a.facts) budget a.parts a.outcomes a.outcomes_are) (are_shown other (value_at b.facts) budget b.parts b.outcomes b.outcomes_are)),
   ) where
-    values : value_at a.facts ≡ value_at b.facts
-    values = one_closure other.system.constraints other.starts (value_at a.facts) (value_at b.facts) (closure_there (value_at a.facts) a.closure) b.closure
-
-    parts_there : AreParts other.system.vars other.system.constraints (value_at b.facts) (vars_of a.parts)
-    parts_there = subst (λ (n : ℕ). AreParts n other.system.constraints (value_at b.facts) (vars_of a.parts)) alike.vars
-        (subst (λ (cs : List Constraint). AreParts case.system.vars cs (value_at b.facts) (vars_of a.parts)) alike.constraints
-        (subst (λ (v : ℕ → Option Order). AreParts case.system.vars case.system.constraints v (vars_of a.parts)) values a.parts_are))
-
-    parts : vars_of a.parts ≡ vars_of b.parts
-    parts = one_parts other.system.vars other.system.constraints (value_at b.facts) (vars_of a.parts) (vars_of b.parts) parts_there b.parts_are
-
     coming_there : AreComing other.system.constraints (value_at b.facts) budget a.parts a.outcomes
     coming_there = subst (λ (cs : List Constraint). AreComing cs (value_at b.facts) budget a.parts a.outcomes) alike.constraints
-        (subst (λ (v : ℕ → Option Order). AreComing case.system.constraints v budget a.parts a.outcomes) values (are_coming case (value_at a.facts) budget a.parts a.outcomes a.outcomes_are))
+        (subst (λ (v : ℕ → Option Order). AreComing case.system.constraints v budget a.parts a.outcomes) (same_values a b) (are_coming case (value_at a.facts) budget a.parts a.outcomes a.outcomes_are))
 
     outcomes : map shape a.outcomes ≡ map shape b.outcomes
-    outcomes = same_outcomes other.system.constraints (value_at b.facts) budget a.parts b.parts a.outcomes b.outcomes parts coming_there
+    outcomes = same_outcomes other.system.constraints (value_at b.facts) budget a.parts b.parts a.outcomes b.outcomes (same_parts a b) coming_there
         (are_coming other (value_at b.facts) budget b.parts b.outcomes b.outcomes_are)
 
     heads : head faces folded case (Some a.facts) ≡ head faces folded other (Some b.facts)
     heads = ap (λ ps. board_head faces folded ps (length case.system.constraints) (value_at a.facts)) alike.pairs
         ∙ ap (λ cs. board_head faces folded other.pairs (length cs) (value_at a.facts)) alike.constraints
-        ∙ ap (λ v. board_head faces folded other.pairs (length other.system.constraints) v) values
+        ∙ ap (λ v. board_head faces folded other.pairs (length other.system.constraints) v) (same_values a b)
 
   pub one_report : IsReport faces folded case budget l t → IsReport faces folded other budget m u → (l ≡ m) × AreOneText t u
   one_report (inl a) (inl b) = clash_clash a b
@@ -162,3 +164,24 @@ module _ (faces : Faces) (folded : Folded) (case other : Case) (budget : ℕ) (l
 
 pub report_is_one : ReportIsOne
 report_is_one faces folded case other budget l m t u alike a b = one_report faces folded case other budget l m t u alike a b
+
+-- ---- summaries
+
+same_numbers : (s t : Summary) → s.decided ≡ t.decided → s.parts ≡ t.parts → s.last ≡ t.last → s ≡ t
+same_numbers s t d p e = λ i. record { decided = d i; parts = p i; last = e i }
+
+module _ (faces : Faces) (folded : Folded) (case other : Case) (budget : ℕ) (s t : Summary) (alike : AreAlike case other) where
+  one_summary : IsSummary faces folded case budget s → IsSummary faces folded other budget t → s ≡ t
+  one_summary (inl a) (inl b) = same_numbers s t (a.decided ∙ sym b.decided) (a.counted ∙ sym b.counted) (a.ends ∙ sym b.ends)
+  one_summary (inl a) (inr b) = clash_or_closure other.system.constraints other.starts (value_at b.report.facts)
+      (clashes_there faces folded case other budget s.last t.last b.text b.text alike a.clashes) b.report.closure
+  one_summary (inr a) (inl b) = clash_or_closure other.system.constraints other.starts (value_at a.report.facts) b.clashes
+      (closure_there faces folded case other budget s.last t.last a.text a.text alike (value_at a.report.facts) a.report.closure)
+  one_summary (inr a) (inr b) = same_numbers s t
+      (a.decided ∙ ap₂ (λ v n. decided_below v n) (same_values faces folded case other budget s.last t.last a.text b.text alike a.report b.report) alike.vars ∙ sym b.decided)
+      (a.counted ∙ sym (length-map a.report.parts (λ (p : Part). p.vars)) ∙ ap length (same_parts faces folded case other budget s.last t.last a.text b.text alike a.report b.report)
+      ∙ length-map b.report.parts (λ (p : Part). p.vars) ∙ sym b.counted)
+      (board_board faces folded case other budget s.last t.last a.text b.text alike a.report b.report).0
+
+pub summary_is_one : SummaryIsOne
+summary_is_one faces folded case other budget s t alike a b = one_summary faces folded case other budget s t alike a b

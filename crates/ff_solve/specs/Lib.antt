@@ -3,3 +3,4 @@ pub mod Reports
 pub mod Written
 pub mod Choices
 pub mod Laws
+pub mod Summaries

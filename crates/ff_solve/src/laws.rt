@@ -1,9 +1,10 @@
 //! Laws of reports.
-ghost use Rattle.ff_solve.specs.Laws.{ChoicesAreStackings, ClashHasNone, ReportIsOne, StartClashHasNone, StartsAreStackings};
+ghost use Rattle.ff_solve.specs.Laws.{ChoicesAreStackings, ClashHasNone, ReportIsOne, StartClashHasNone, StartsAreStackings, SummaryIsOne};
 
-/// Reports of cases that differ at most in the places of their cites end alike and are one text but for their logs.
+/// Reports of cases that differ at most in the places of their cites end alike and are one text but for their logs. Their summaries are the same.
 pub fn report_is_one()
-    ensures { ReportIsOne }
+    ensures report { ReportIsOne }
+    ensures summary { SummaryIsOne }
 {}
 
 /// Choices of one solution of each part correspond one-to-one to the geometric stackings that keep the creases and the

@@ -5,6 +5,8 @@ mod laws;
 mod outcomes;
 mod refuting;
 mod reports;
+mod summaries;
 
 pub use laws::{report_is_one, stackings_are_choices};
 pub use reports::{Report, report_of};
+pub use summaries::summary_of;
