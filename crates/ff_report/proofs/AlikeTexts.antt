@@ -131,9 +131,9 @@ same_last os rs e = sym (last_shape os) ∙ ap last_of e ∙ last_shape rs
 abbrev pub with_parts : List ℕ → List (List ℕ) → List PartOutcome → List ℕ
 with_parts front parts outcomes = front ++ parts_line (length parts) ++ lines_of (part_at parts outcomes) (length parts) ++ last_line (last_of outcomes)
 
--- the front, `clash` and a log, the last line
+-- the front, and the lines where the closure clashes
 abbrev pub with_clash : List ℕ → List LogLine → List ℕ
-with_clash front log = front ++ clash_lines log ++ last_line last.Impossible
+with_clash front log = front ++ clash_lines log
 
 -- texts that are the same
 pub same_one : (x y : List ℕ) → x ≡ y → AreOneText x y
@@ -153,7 +153,7 @@ board_ends : (front : List ℕ) (parts : List (List ℕ)) (os : List PartOutcome
 board_ends front parts os = ends_after (front ++ parts_line (length parts) ++ lines_to parts os) (last_line (last_of os)) (last_ends (last_of os))
 
 clash_ends : (front : List ℕ) (log : List LogLine) → EndsLine (with_clash front log)
-clash_ends front log = ends_after (front ++ clash_lines log) (last_line last.Impossible) (last_ends last.Impossible)
+clash_ends front log = ends_after front (clash_lines log) (ends_after (codes "clash\n" ++ log_lines log) (codes "impossible\n") (codes "impossible", refl))
 
 abbrev counted : List ℕ → List (List ℕ) → List ℕ
 counted front parts = front ++ parts_line (length parts)
@@ -181,8 +181,9 @@ boards_one front parts os rs e h k = one_text (with_parts front parts os) (with_
 pub clashes_one : (front : List ℕ) (x y : List LogLine) → HasLines x → HasLines y → AreOneText (with_clash front x) (with_clash front y)
 clashes_one front x y h k = one_text (with_clash front x) (with_clash front y) (clash_ends front x) (clash_ends front y)
     (ap (λ (t : List ℕ). pieces_of (lines_in t)) (cut x) ∙ whole ∙ sym (ap (λ (t : List ℕ). pieces_of (lines_in t)) (cut y))) where
-      cut : (z : List LogLine) → with_clash front z ≡ (clashed front ++ log_lines z) ++ last_line last.Impossible
-      cut z = ap (λ (t : List ℕ). t ++ last_line last.Impossible) (sym (append_assoc front (codes "clash\n") (log_lines z)))
+      cut : (z : List LogLine) → with_clash front z ≡ (clashed front ++ log_lines z) ++ codes "impossible\n"
+      cut z = sym (append_assoc front (codes "clash\n" ++ log_lines z) (codes "impossible\n"))
+          ∙ ap (λ (t : List ℕ). t ++ codes "impossible\n") (sym (append_assoc front (codes "clash\n") (log_lines z)))
 
       top_ended : IsEnded (clashed front)
       top_ended = inr (ends_after front (codes "clash\n") (codes "clash", refl))
@@ -193,5 +194,5 @@ clashes_one front x y h k = one_text (with_clash front x) (with_clash front y) (
       middle : AreAlike (clashed front ++ log_lines x) (clashed front ++ log_lines y)
       middle = alike_then (clashed front) (clashed front) (log_lines x) (log_lines y) top_ended top_ended refl (logs_alike x y h k)
 
-      whole : AreAlike ((clashed front ++ log_lines x) ++ last_line last.Impossible) ((clashed front ++ log_lines y) ++ last_line last.Impossible)
-      whole = alike_then (clashed front ++ log_lines x) (clashed front ++ log_lines y) (last_line last.Impossible) (last_line last.Impossible) (ended x) (ended y) middle refl
+      whole : AreAlike ((clashed front ++ log_lines x) ++ codes "impossible\n") ((clashed front ++ log_lines y) ++ codes "impossible\n")
+      whole = alike_then (clashed front ++ log_lines x) (clashed front ++ log_lines y) (codes "impossible\n") (codes "impossible\n") (ended x) (ended y) middle refl

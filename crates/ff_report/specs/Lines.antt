@@ -19,9 +19,9 @@ use Rattle.ff_report.specs.declared.lines.Last.TheVariants.{Done, Impossible, Un
 abbrev pub parts_line : ℕ → List ℕ
 parts_line count = codes "parts " ++ decimal count ++ codes "\n"
 
--- where the closure clashes: `clash` and a log
+-- where the closure clashes: `clash`, a log, and `impossible`
 abbrev pub clash_lines : List LogLine → List ℕ
-clash_lines log = codes "clash\n" ++ log_lines log
+clash_lines log = codes "clash\n" ++ log_lines log ++ codes "impossible\n"
 
 -- how the report ends
 abbrev pub last_line : Last → List ℕ
@@ -54,4 +54,4 @@ board_text faces folded case facts parts outcomes = head faces folded case (Some
 
 -- the whole report where the closure clashes
 abbrev pub clash_report : Faces → Folded → Case → List LogLine → List ℕ
-clash_report faces folded case log = head faces folded case None ++ clash_lines log ++ last_line Impossible
+clash_report faces folded case log = head faces folded case None ++ clash_lines log

@@ -12,4 +12,4 @@ pub use heads::head_text;
 pub use lines::{Last, clash_text, last_text, parts_text};
 pub use parts::{PartOutcome, part_text};
 pub use refusals::refusal_text;
-pub use summaries::{Summary, summary_text};
+pub use summaries::summary_text;

@@ -30,12 +30,13 @@ pub fn parts_text(alloc: Global, count: u32) -> Result<Text, NoMemory>
     Ok(Text::of(text))
 }
 
-/// The lines where the closure clashes: `clash` and a log that shows it.
+/// The lines where the closure clashes: `clash`, a log that shows it, and `impossible`.
 pub fn clash_text(alloc: Global, log: &Log) -> Result<Text, NoMemory>
     ensures { IfOk result (λ text. text ≡ clash_lines log.now.lines) }
 {
     let mut text = String::from_str(alloc, "clash\n")?;
     push_log(alloc, &mut text, log)?;
+    text.push_str("impossible\n")?;
     Ok(Text::of(text))
 }
 

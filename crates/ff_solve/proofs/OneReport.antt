@@ -27,9 +27,10 @@ use Rattle.ff_report.specs.declared.lines.Last.{Last}
 use Rattle.ff_solve.specs.Outcomes.{AreOutcomes}
 use Rattle.ff_solve.specs.Reports.{IsReport, IsClashReport, IsBoardReport}
 use Rattle.ff_solve.specs.Laws.{ReportIsOne, SummaryIsOne}
-use Rattle.ff_solve.specs.Summaries.{IsSummary}
-use Rattle.ff_report.specs.declared.summaries.Summary.{Summary}
-use Rattle.ff_report.specs.Summaries.{decided_below}
+use Rattle.ff_solve.specs.Summaries.{IsBoardSummary, IsClashSummary, IsSummary}
+use Rattle.ff_report.specs.declared.lines.Last.TheVariants.{Impossible}
+use Rattle.ff_report.specs.Lines.{last_line}
+use Rattle.ff_report.specs.Summaries.{decided_below, decided_line, made_line, summary_lines}
 use Rattle.ff_solve.proofs.Lists.{vars_at}
 use Rattle.ff_solve.proofs.OneOutcome.{Comes, closed_has_lines, comes, one_outcome, shown}
 use Rattle.ff_solve.proofs.OneParts.{one_parts}
@@ -167,21 +168,45 @@ report_is_one faces folded case other budget l m t u alike a b = one_report face
 
 -- ---- summaries
 
-same_numbers : (s t : Summary) → s.decided ≡ t.decided → s.parts ≡ t.parts → s.last ≡ t.last → s ≡ t
-same_numbers s t d p e = λ i. record { decided = d i; parts = p i; last = e i }
+-- the summary by what it depends on
+abbrev summary_by : ℕ → Faces → Folded → ℕ → ℕ → ℕ → ℕ → Last → List ℕ
+summary_by count faces folded pairs constraints decided parts last = made_line count ++ counts_line (length faces.rings) folded.scale pairs constraints
+    ++ decided_line decided parts ++ last_line last
 
-module _ (faces : Faces) (folded : Folded) (case other : Case) (budget : ℕ) (s t : Summary) (alike : AreAlike case other) where
-  one_summary : IsSummary faces folded case budget s → IsSummary faces folded other budget t → s ≡ t
-  one_summary (inl a) (inl b) = same_numbers s t (a.decided ∙ sym b.decided) (a.counted ∙ sym b.counted) (a.ends ∙ sym b.ends)
+module _ (count : ℕ) (faces : Faces) (folded : Folded) (case other : Case) (budget : ℕ) (l m : Last) (t u : List ℕ) (alike : AreAlike case other) where
+  clash_summaries : IsClashSummary count faces folded case l t → IsClashSummary count faces folded other m u → (l ≡ m) × (t ≡ u)
+  clash_summaries a b = (
+    a.ends ∙ sym b.ends,
+    a.is ∙ ap (λ n. summary_by count faces folded n (length case.system.constraints) 0 0 Impossible) (ap length alike.pairs)
+    ∙ ap (λ n. summary_by count faces folded (length other.pairs) n 0 0 Impossible) (ap length alike.constraints) ∙ sym b.is,
+  )
+
+  board_summaries : IsBoardSummary count faces folded case budget l t → IsBoardSummary count faces folded other budget m u → (l ≡ m) × (t ≡ u)
+  board_summaries a b = (last, a.is ∙ texts ∙ sym b.is) where
+    last : l ≡ m
+    last = (board_board faces folded case other budget l m a.whole b.whole alike a.report b.report).0
+
+    decided : decided_below (value_at a.report.facts) (length case.pairs) ≡ decided_below (value_at b.report.facts) (length other.pairs)
+    decided = ap₂ (λ (v : ℕ → Option Order) (n : ℕ). decided_below v n) (same_values faces folded case other budget l m a.whole b.whole alike a.report b.report) (ap length alike.pairs)
+
+    parts : length a.report.parts ≡ length b.report.parts
+    parts = sym (length-map a.report.parts (λ (p : Part). p.vars)) ∙ ap length (same_parts faces folded case other budget l m a.whole b.whole alike a.report b.report)
+        ∙ length-map b.report.parts (λ (p : Part). p.vars)
+
+    texts : summary_lines count faces folded case (Some a.report.facts) (length a.report.parts) l ≡ summary_lines count faces folded other (Some b.report.facts) (length b.report.parts) m
+    texts = ap (λ n. summary_by count faces folded (length case.pairs) (length case.system.constraints) n (length a.report.parts) l) decided
+        ∙ ap (λ n. summary_by count faces folded (length case.pairs) (length case.system.constraints) (decided_below (value_at b.report.facts) (length other.pairs)) n l) parts
+        ∙ ap (λ n. summary_by count faces folded n (length case.system.constraints) (decided_below (value_at b.report.facts) (length other.pairs)) (length b.report.parts) l) (ap length alike.pairs)
+        ∙ ap (λ n. summary_by count faces folded (length other.pairs) n (decided_below (value_at b.report.facts) (length other.pairs)) (length b.report.parts) l) (ap length alike.constraints)
+        ∙ ap (λ k. summary_by count faces folded (length other.pairs) (length other.system.constraints) (decided_below (value_at b.report.facts) (length other.pairs)) (length b.report.parts) k) last
+
+  one_summary : IsSummary count faces folded case budget l t → IsSummary count faces folded other budget m u → (l ≡ m) × (t ≡ u)
+  one_summary (inl a) (inl b) = clash_summaries a b
   one_summary (inl a) (inr b) = clash_or_closure other.system.constraints other.starts (value_at b.report.facts)
-      (clashes_there faces folded case other budget s.last t.last b.text b.text alike a.clashes) b.report.closure
+      (clashes_there faces folded case other budget l m t u alike a.clashes) b.report.closure
   one_summary (inr a) (inl b) = clash_or_closure other.system.constraints other.starts (value_at a.report.facts) b.clashes
-      (closure_there faces folded case other budget s.last t.last a.text a.text alike (value_at a.report.facts) a.report.closure)
-  one_summary (inr a) (inr b) = same_numbers s t
-      (a.decided ∙ ap₂ (λ v n. decided_below v n) (same_values faces folded case other budget s.last t.last a.text b.text alike a.report b.report) alike.vars ∙ sym b.decided)
-      (a.counted ∙ sym (length-map a.report.parts (λ (p : Part). p.vars)) ∙ ap length (same_parts faces folded case other budget s.last t.last a.text b.text alike a.report b.report)
-      ∙ length-map b.report.parts (λ (p : Part). p.vars) ∙ sym b.counted)
-      (board_board faces folded case other budget s.last t.last a.text b.text alike a.report b.report).0
+      (closure_there faces folded case other budget l m t u alike (value_at a.report.facts) a.report.closure)
+  one_summary (inr a) (inr b) = board_summaries a b
 
 pub summary_is_one : SummaryIsOne
-summary_is_one faces folded case other budget s t alike a b = one_summary faces folded case other budget s t alike a b
+summary_is_one count faces folded case other budget l m t u alike a b = one_summary count faces folded case other budget l m t u alike a b

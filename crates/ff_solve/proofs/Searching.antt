@@ -89,7 +89,7 @@ module _ (cons : List Constraint) (facts : List (Option Fact)) (part : List ℕ)
 
   all_seen : answer ≡ Finished → t.visited ≡ length (visits stands.tree)
   all_seen r =
-      let nothing : length (visits stands.tree) - t.visited ≡ 0 = sym (length-drop t.visited (visits stands.tree)) ∙ ap length (b_ended r).ended in
+      let nothing : length (visits stands.tree) - t.visited ≡ 0 = sym (length-drop t.visited (visits stands.tree)) ∙ ap length (b_ended r).advances.ended in
       let l : t.visited ≤ length (visits stands.tree) = stands.is_in.within in
       omega (arith, nothing, l)
 

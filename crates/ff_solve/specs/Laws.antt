@@ -15,7 +15,6 @@ use Rattle.ff_crossings.specs.Pins.{AreListedPins, with_pins}
 use Rattle.ff_report.specs.declared.lines.Last.{Last}
 use Rattle.ff_report.specs.Alike.{AreOneText}
 use Rattle.ff_solve.specs.Choices.{IsKept, AreStackings}
-use Rattle.ff_report.specs.declared.summaries.Summary.{Summary}
 use Rattle.ff_solve.specs.Reports.{IsReport}
 use Rattle.ff_solve.specs.Summaries.{IsSummary}
 
@@ -48,7 +47,7 @@ abbrev pub ReportIsOne : Type 0
 ReportIsOne = (faces : Faces) (folded : Folded) (case other : Case) (budget : ℕ) (l m : Last) (t u : List ℕ) → AreAlike case other
     → IsReport faces folded case budget l t → IsReport faces folded other budget m u → (l ≡ m) × AreOneText t u
 
--- Such cases come to one summary.
+-- Such cases have one summary.
 abbrev pub SummaryIsOne : Type 0
-SummaryIsOne = (faces : Faces) (folded : Folded) (case other : Case) (budget : ℕ) (s t : Summary) → AreAlike case other
-    → IsSummary faces folded case budget s → IsSummary faces folded other budget t → s ≡ t
+SummaryIsOne = (count : ℕ) (faces : Faces) (folded : Folded) (case other : Case) (budget : ℕ) (l m : Last) (t u : List ℕ) → AreAlike case other
+    → IsSummary count faces folded case budget l t → IsSummary count faces folded other budget m u → (l ≡ m) × (t ≡ u)

@@ -9,4 +9,4 @@ mod summaries;
 
 pub use laws::{report_is_one, stackings_are_choices};
 pub use reports::{Report, report_of};
-pub use summaries::summary_of;
+pub use summaries::{Summary, summary_of};

@@ -1,5 +1,5 @@
 //! The report of a case.
-ghost use Rattle.std.specs.Prelude.{◌≡◌, suc, ◌<◌, ◌++◌, ◌^◌, IfOk, length};
+ghost use Rattle.std.specs.Prelude.{◌≡◌, suc, ◌<◌, ◌++◌, ◌^◌, IfOk, [], length};
 ghost use Rattle.ff_propagate.specs.Facts.{value_at};
 ghost use Rattle.ff_propagate.specs.Closing.{ClosesTo};
 ghost use Rattle.ff_propagate.specs.declared.facts.Closed.TheVariants.{Board, Clash};
@@ -18,13 +18,14 @@ use ff_tables::{Items, NoMemory, Text};
 use ff_types::{Case, Faces, Folded};
 use std::alloc::{AllocError, Global};
 
-/// A report, to be written part by part: the lines before the parts, each part with what its search came to, and how it
-/// ends.
+/// A report, to be written part by part: the lines before the parts, each part with what its search came to, the lines that end it,
+/// and how it ends.
 #[derive(Drop)]
 pub struct Report {
     pub head: Text,
     pub parts: Items<Part>,
     pub outcomes: Items<PartOutcome>,
+    pub end: Text,
     pub last: Last,
     pub ghost valid: { AreReported parts outcomes },
 }
@@ -53,13 +54,13 @@ impl Report {
     /// A piece of the text.
     pub fn piece(&self, alloc: Global, n: usize) -> Result<Text, NoMemory>
         requires { n < suc (suc (length self.now.parts)) }
-        ensures { IfOk result (λ text. text ≡ piece_at self.now.head self.now.parts self.now.outcomes self.now.last n) }
+        ensures { IfOk result (λ text. text ≡ piece_at self.now.head self.now.parts self.now.outcomes self.now.end n) }
     {
         if n == 0 {
             return self.head.copy(alloc);
         }
         if n - 1 == self.parts.as_slice().len() {
-            return last_text(alloc, self.last);
+            return self.end.copy(alloc);
         }
         self.part(alloc, n - 1)
     }
@@ -85,7 +86,7 @@ fn report_board(
     requires folding { FitFolding faces.now folded.now }
     requires board { ClosesTo case.now.system.vars case.now.system.constraints case.now.starts (Board facts.now) }
     requires few { length case.now.system.constraints < 2 ^ 32 }
-    ensures { IfOk result (λ r. IsReport faces.now folded.now case.now budget r.last (report_text r.head r.parts r.outcomes r.last)) }
+    ensures { IfOk result (λ r. IsReport faces.now folded.now case.now budget r.last (report_text r.head r.parts r.outcomes r.end)) }
 {
     let _vars = case.system.vars;
     let head = head_text(alloc, faces, folded, case, Some(facts))?;
@@ -93,12 +94,26 @@ fn report_board(
     let outcomes = outcomes_of(alloc, case, facts, parts.as_slice(), budget)?;
     let count = parts_text(alloc, parts.as_slice().len() as u32)?;
     let last = ending(outcomes.as_slice());
+    let end = last_text(alloc, last)?;
     Ok(Report {
         head: joined(alloc, &head, &count)?,
         parts,
         outcomes,
+        end,
         last,
     })
+}
+
+fn no_parts(alloc: Global) -> Items<Part>
+    ensures { result ≡ [] }
+{
+    Items::of(Vec::new(alloc))
+}
+
+fn no_outcomes(alloc: Global) -> Items<PartOutcome>
+    ensures { result ≡ [] }
+{
+    Items::of(Vec::new(alloc))
 }
 
 // The report where the closure clashes.
@@ -112,15 +127,18 @@ fn report_clash(
 ) -> Result<Report, NoMemory>
     requires folding { FitFolding faces.now folded.now }
     requires clash { ClosesTo case.now.system.vars case.now.system.constraints case.now.starts (Clash facts.now at) }
-    ensures { IfOk result (λ r. IsClashReport faces.now folded.now case.now r.last (report_text r.head r.parts r.outcomes r.last)) }
+    ensures { IfOk result (λ r. IsClashReport faces.now folded.now case.now r.last (report_text r.head r.parts r.outcomes r.end)) }
 {
     let log = clash_log(alloc, case, facts, at)?;
     let head = head_text(alloc, faces, folded, case, None)?;
-    let clash = clash_text(alloc, &log)?;
+    let end = clash_text(alloc, &log)?;
+    let parts = no_parts(alloc);
+    let outcomes = no_outcomes(alloc);
     Ok(Report {
-        head: joined(alloc, &head, &clash)?,
-        parts: Items::of(Vec::new(alloc)),
-        outcomes: Items::of(Vec::new(alloc)),
+        head,
+        parts,
+        outcomes,
+        end,
         last: Last::Impossible,
     })
 }
@@ -135,7 +153,7 @@ pub fn report_of(
 ) -> Result<Report, NoMemory>
     requires folding { FitFolding faces.now folded.now }
     requires few { (length case.now.system.constraints < 2 ^ 32) × (length case.now.starts < 2 ^ 32) }
-    ensures { IfOk result (λ r. IsReport faces.now folded.now case.now budget r.last (report_text r.head r.parts r.outcomes r.last)) }
+    ensures { IfOk result (λ r. IsReport faces.now folded.now case.now budget r.last (report_text r.head r.parts r.outcomes r.end)) }
 {
     match close(alloc, &case.system, &case.starts)? {
         Closed::Board(facts) => report_board(alloc, faces, folded, case, &facts, budget),

@@ -37,9 +37,9 @@ solved bytes faces folded case budget l text reads report = record {
 }
 
 pub report_solved : (bytes : List ℕ) (faces : Faces) (folded : Folded) (case : Case) (budget : ℕ) → ReadsProblem bytes faces folded case
-    → (r : Result Report NoMemory) → IfOk r (λ x. IsReport faces folded case budget x.last (report_text x.head x.parts x.outcomes x.last))
-    → IfOk r (λ x. IsSolved bytes budget x.last (report_text x.head x.parts x.outcomes x.last))
-report_solved bytes faces folded case budget reads (Ok x) h = solved bytes faces folded case budget x.last (report_text x.head x.parts x.outcomes x.last) reads h
+    → (r : Result Report NoMemory) → IfOk r (λ x. IsReport faces folded case budget x.last (report_text x.head x.parts x.outcomes x.end))
+    → IfOk r (λ x. IsSolved bytes budget x.last (report_text x.head x.parts x.outcomes x.end))
+report_solved bytes faces folded case budget reads (Ok x) h = solved bytes faces folded case budget x.last (report_text x.head x.parts x.outcomes x.end) reads h
 report_solved bytes faces folded case budget reads (Err n) h = tt
 
 -- a point for each corner of each face

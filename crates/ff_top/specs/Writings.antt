@@ -14,7 +14,7 @@ piece_count (Report r) = suc (suc (length r.parts))
 -- the piece with this number
 abbrev pub piece_of : Writing → ℕ → List ℕ
 piece_of (Line text) n = text
-piece_of (Report r) n = piece_at r.head r.parts r.outcomes r.last n
+piece_of (Report r) n = piece_at r.head r.parts r.outcomes r.end n
 
 -- all of them
 abbrev pub text_of : Writing → List ℕ

@@ -84,7 +84,7 @@ fn report_on(
     budget: u64,
 ) -> Result<Report, NoMemory>
     requires { ReadsProblem bytes.now problem.now.faces problem.now.folded problem.now.case }
-    ensures { IfOk result (λ r. IsSolved bytes.now budget r.last (report_text r.head r.parts r.outcomes r.last)) }
+    ensures { IfOk result (λ r. IsSolved bytes.now budget r.last (report_text r.head r.parts r.outcomes r.end)) }
 {
     let _ = bytes;
     report_of(

@@ -35,4 +35,4 @@ returns c = inr (report_of_board c.args.faces.now c.args.folded.now c.args.case.
     c.requires.board c.in_ok-parts.ensures.parts c.in_ok-parts.ensures.factors
     (subst (λ ps. AreOutcomes c.args.case.now (value_at c.args.facts.now) c.args.budget ps c.in_ok-outcomes.outcomes) c.as_slice.ensures c.in_ok-outcomes.ensures)
     (c.ending-last.ensures ∙ ap last_of c.as_slice-3.ensures)
-    (text_as _ _ _ _ _ _ _ c.in_ok-joined.ensures c.in_ok-head.ensures (c.in_ok-count.ensures ∙ ap parts_line (ap length c.as_slice-2.ensures)) (c.ending-last.ensures ∙ ap last_of c.as_slice-3.ensures)))
+    (text_as _ _ _ _ _ _ _ _ c.in_ok-joined.ensures c.in_ok-head.ensures (c.in_ok-count.ensures ∙ ap parts_line (ap length c.as_slice-2.ensures)) c.in_ok-end.ensures (c.ending-last.ensures ∙ ap last_of c.as_slice-3.ensures)))
