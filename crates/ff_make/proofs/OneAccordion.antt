@@ -73,57 +73,78 @@ a_vertex n v = elim (vertex_kind n v) [
 
 an_edge : (n e : ℕ) → (x : EdgeEnds) × IsEdge n e x
 an_edge n e = elim (kind_of n e) [
-  | inl k ↦ (record { a = e; b = e + 1 }, record {
-    below = λ _. refl;
-    right = λ q. absurd (omega (arith, k, q));
-    above = λ i l q. absurd (omega (arith, k, q));
-    left = λ q. absurd (omega (arith, k, q));
-    crease = λ i l q. absurd (omega (arith, k, q));
-  })
-  | inr (inl k) ↦ (record { a = n; b = 2 * n + 1 }, record {
-    below = λ l. absurd (omega (arith, k, l));
-    right = λ _. refl;
-    above = λ i l q. absurd (omega (arith, k, q));
-    left = λ q. absurd (omega (arith, k, q));
-    crease = λ i l q. absurd (omega (arith, k, q));
-  })
-  | inr (inr (inl k)) ↦ (record { a = 2 * n + 1 - (e - (n + 1)); b = 2 * n - (e - (n + 1)) }, record {
-    below = λ l. absurd (omega (arith, k.0, l));
-    right = λ q. absurd (omega (arith, k.0, q));
-    above = λ i l q. ap (λ (z : ℕ). record { a = 2 * n + 1 - z; b = 2 * n - z }) (let r : e - (n + 1) ≡ i = omega (arith, q) in r);
-    left = λ q. absurd (omega (arith, k.1, q));
-    crease = λ i l q. absurd (omega (arith, k.1, q));
-  })
-  | inr (inr (inr (inl k))) ↦ (record { a = n + 1; b = 0 }, record {
-    below = λ l. absurd (omega (arith, k, l));
-    right = λ q. absurd (omega (arith, k, q));
-    above = λ i l q. absurd (omega (arith, k, l, q));
-    left = λ _. refl;
-    crease = λ i l q. absurd (omega (arith, k, l, q));
-  })
-  | inr (inr (inr (inr k))) ↦ (record { a = e - (2 * n + 1); b = n + 1 + (e - (2 * n + 1)) }, record {
-    below = λ l. absurd (omega (arith, k, l));
-    right = λ q. absurd (omega (arith, k, q));
-    above = λ i l q. absurd (omega (arith, k, l, q));
-    left = λ q. absurd (omega (arith, k, q));
-    crease = λ i l q. ap (λ (z : ℕ). record { a = z; b = n + 1 + z }) (let r : e - (2 * n + 1) ≡ i = omega (arith, q) in r);
-  })
+  | inl k ↦ (
+    record { a = e; b = e + 1 },
+    record {
+      below = λ _. refl;
+      right = λ q. absurd (omega (arith, k, q));
+      above = λ i l q. absurd (omega (arith, k, q));
+      left = λ q. absurd (omega (arith, k, q));
+      crease = λ i l q. absurd (omega (arith, k, q));
+    },
+  )
+  | inr (inl k) ↦ (
+    record { a = n; b = 2 * n + 1 },
+    record {
+      below = λ l. absurd (omega (arith, k, l));
+      right = λ _. refl;
+      above = λ i l q. absurd (omega (arith, k, q));
+      left = λ q. absurd (omega (arith, k, q));
+      crease = λ i l q. absurd (omega (arith, k, q));
+    },
+  )
+  | inr (inr (inl k)) ↦ (
+    record { a = 2 * n + 1 - (e - (n + 1)); b = 2 * n - (e - (n + 1)) },
+    record {
+      below = λ l. absurd (omega (arith, k.0, l));
+      right = λ q. absurd (omega (arith, k.0, q));
+      above = λ i l q. ap (λ (z : ℕ). record { a = 2 * n + 1 - z; b = 2 * n - z }) (let r : e - (n + 1) ≡ i = omega (arith, q) in r);
+      left = λ q. absurd (omega (arith, k.1, q));
+      crease = λ i l q. absurd (omega (arith, k.1, q));
+    },
+  )
+  | inr (inr (inr (inl k))) ↦ (
+    record { a = n + 1; b = 0 },
+    record {
+      below = λ l. absurd (omega (arith, k, l));
+      right = λ q. absurd (omega (arith, k, q));
+      above = λ i l q. absurd (omega (arith, k, l, q));
+      left = λ _. refl;
+      crease = λ i l q. absurd (omega (arith, k, l, q));
+    },
+  )
+  | inr (inr (inr (inr k))) ↦ (
+    record { a = e - (2 * n + 1); b = n + 1 + (e - (2 * n + 1)) },
+    record {
+      below = λ l. absurd (omega (arith, k, l));
+      right = λ q. absurd (omega (arith, k, q));
+      above = λ i l q. absurd (omega (arith, k, l, q));
+      left = λ q. absurd (omega (arith, k, q));
+      crease = λ i l q. ap (λ (z : ℕ). record { a = z; b = n + 1 + z }) (let r : e - (2 * n + 1) ≡ i = omega (arith, q) in r);
+    },
+  )
 ]
 
 a_mark : (n e : ℕ) → (m : Mark) × IsMark n e m
 a_mark n e = elim (border_or n e) [
   | inl k ↦ (B, record { border = λ _. refl; valley = λ i l q. absurd (omega (arith, k, l, q)); mountain = λ i l q. absurd (omega (arith, k, l, q)) })
   | inr k ↦ elim (even_or_odd (e - (2 * n + 1))) [
-    | inl odd ↦ (V, record {
-      border = λ l. absurd (omega (arith, k, l));
-      valley = λ i l q r. refl;
-      mountain = λ i l q r. absurd (let s : e - (2 * n + 1) ≡ i = omega (arith, q) in omega (arith, sym (ap (λ (z : ℕ). z % 2) s) ∙ odd, r));
-    })
-    | inr even ↦ (M, record {
-      border = λ l. absurd (omega (arith, k, l));
-      valley = λ i l q r. absurd (let s : e - (2 * n + 1) ≡ i = omega (arith, q) in omega (arith, sym (ap (λ (z : ℕ). z % 2) s) ∙ even, r));
-      mountain = λ i l q r. refl;
-    })
+    | inl odd ↦ (
+      V,
+      record {
+        border = λ l. absurd (omega (arith, k, l));
+        valley = λ i l q r. refl;
+        mountain = λ i l q r. absurd (let s : e - (2 * n + 1) ≡ i = omega (arith, q) in omega (arith, sym (ap (λ (z : ℕ). z % 2) s) ∙ odd, r));
+      },
+    )
+    | inr even ↦ (
+      M,
+      record {
+        border = λ l. absurd (omega (arith, k, l));
+        valley = λ i l q r. absurd (let s : e - (2 * n + 1) ≡ i = omega (arith, q) in omega (arith, sym (ap (λ (z : ℕ). z % 2) s) ∙ even, r));
+        mountain = λ i l q r. refl;
+      },
+    )
   ]
 ]
 

@@ -178,7 +178,7 @@ module _ (count : ℕ) (faces : Faces) (folded : Folded) (case other : Case) (bu
   clash_summaries a b = (
     a.ends ∙ sym b.ends,
     a.is ∙ ap (λ n. summary_by count faces folded n (length case.system.constraints) 0 0 Impossible) (ap length alike.pairs)
-    ∙ ap (λ n. summary_by count faces folded (length other.pairs) n 0 0 Impossible) (ap length alike.constraints) ∙ sym b.is,
+        ∙ ap (λ n. summary_by count faces folded (length other.pairs) n 0 0 Impossible) (ap length alike.constraints) ∙ sym b.is,
   )
 
   board_summaries : IsBoardSummary count faces folded case budget l t → IsBoardSummary count faces folded other budget m u → (l ≡ m) × (t ≡ u)
