@@ -1,0 +1,6 @@
+//! What the bytes of `bench` come to: the journal of a workbench.
+#![tactic(auto)]
+
+mod session;
+
+pub use session::session_of;
