@@ -1,7 +1,8 @@
 pub mod Reports
 mod Building
 pub mod Coming
-mod Deciding
+pub mod Patterns
+pub mod Deciding
 mod SomeLogs
 mod Closures
 mod Classes

@@ -1,5 +1,5 @@
 -- That no pattern that folds is without an answer. This project's own.
-use Rattle.std.specs.Prelude.{ℕ, List}
+use Rattle.std.specs.Prelude.{ℕ, ◌⊎◌, List}
 use Rattle.ff_types.specs.declared.patterns.Pattern.{Pattern}
 use Rattle.ff_types.specs.declared.faces.Faces.{Faces}
 use Rattle.ff_types.specs.declared.faces.Folded.{Folded}
@@ -9,9 +9,19 @@ use Rattle.ff_types.specs.declared.refusals.Refusal.{Refusal}
 use Rattle.ff_types.specs.Sheets.{sheet_of}
 use Rattle.ff_types.specs.FoldedPatterns.{IsFoldedPattern}
 use Rattle.ff_problem.specs.Limits.{RefusesCase}
-use Rattle.ff_problem.specs.Problems.{IsProblem}
+use Rattle.ff_problem.specs.Problems.{IsProblem, RefusesAsDrawn, RefusesAsFolded, RefusesProblem}
 use Rattle.ff_report.specs.declared.lines.Last.{Last}
 use Rattle.ff_solve.specs.Reports.{IsReport}
+
+-- it can't be that a pattern is refused neither as it is drawn nor as it is folded, and doesn't fold
+abbrev pub PatternsFold : Type 0
+PatternsFold = (p : Pattern) → ((r : Refusal) → RefusesAsDrawn p r ⊎ RefusesAsFolded p r → ⊥)
+    → ((faces : Faces) (folded : Folded) → IsFoldedPattern p faces folded → ⊥) → ⊥
+
+-- it can't be that a pattern isn't refused and comes to no case
+abbrev pub PatternsCome : Type 0
+PatternsCome = (p : Pattern) → ((r : Refusal) → RefusesProblem p r → ⊥)
+    → ((faces : Faces) (folded : Folded) (case : Case) → IsProblem p faces folded case → ⊥) → ⊥
 
 -- it can't be that a pattern that folds isn't refused and comes to no case
 abbrev pub FoldedPatternsCome : Type 0

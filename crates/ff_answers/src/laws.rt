@@ -1,5 +1,15 @@
-//! That no pattern that folds is without an answer.
-ghost use Rattle.ff_answers.specs.Answers.{FoldedPatternsCome, CasesHaveReports};
+//! That no pattern is without an answer.
+ghost use Rattle.ff_answers.specs.Answers.{PatternsFold, PatternsCome, FoldedPatternsCome, CasesHaveReports};
+
+/// It can't be that a pattern is refused neither as it is drawn nor as it is folded, and doesn't fold.
+pub fn patterns_fold()
+    ensures { PatternsFold }
+{}
+
+/// It can't be that a pattern isn't refused and comes to no case.
+pub fn patterns_come()
+    ensures { PatternsCome }
+{}
 
 /// It can't be that a pattern that folds isn't refused and comes to no case.
 pub fn folded_patterns_come()

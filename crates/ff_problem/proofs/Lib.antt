@@ -5,3 +5,5 @@ mod Refusing
 mod Steps
 pub mod CreaseStarts
 mod Making
+pub mod SamePatterns
+pub mod FewConstraints

@@ -1,5 +1,5 @@
 -- A pattern comes to one case, or has one refusal.
-use Rattle.std.proofs.Common.{◌≡◌, inl, inr, ℕ, ℤ, ◌<◌, ◌≤◌, ◌∙◌, Bool, List, length, Option, Some, None, refl, ap, sym, subst, arith}
+use Rattle.std.proofs.Common.{◌≡◌, ◌⊎◌, inl, inr, ℕ, ℤ, ◌<◌, ◌≤◌, ◌∙◌, Bool, List, length, Option, Some, None, refl, ap, sym, subst, arith}
 use Rattle.std.proofs.lemmas.Option.{slice_get_within, get_or_from_slice_get}
 use Rattle.ff_whole.specs.declared.points.Pt.{Pt}
 use Rattle.ff_types.specs.declared.patterns.Pattern.{Pattern}
@@ -35,7 +35,7 @@ use Rattle.ff_reflect.proofs.OneRefusal.{one_refusal as one_unfolded_refusal}
 use Rattle.ff_reflect.proofs.Refused.{none_near}
 use Rattle.ff_reflect.specs.Folding.{IsRefused}
 use Rattle.ff_problem.specs.Limits.{RefusesCase, IsWithinLimits}
-use Rattle.ff_problem.specs.Problems.{IsProblem, RefusesAsDrawn}
+use Rattle.ff_problem.specs.Problems.{IsProblem, RefusesAsDrawn, RefusesAsFolded}
 use Rattle.ff_problem.specs.Laws.{ProblemIsOne, ProblemsAreNotRefused, ProblemRefusalIsOne}
 
 -- ---- the faces beside an edge are determined
@@ -181,9 +181,14 @@ layered_there : (p : Pattern) (faces others : Faces) (folded other : Folded) (r 
 layered_there p faces others folded other r a b c = subst (λ fs. RefusesCase (sheet_of p fs folded) r) (sym (faces_same p faces others folded other a b))
     (subst (λ d. RefusesCase (sheet_of p others d) r) (sym (folded_same p faces others folded other a b)) c)
 
+-- a pattern that folds is refused neither as it is drawn nor as it is folded
+pub folded_not_refused : (p : Pattern) (faces : Faces) (folded : Folded) (r : Refusal) → IsFoldedPattern p faces folded → RefusesAsDrawn p r ⊎ RefusesAsFolded p r → ⊥
+folded_not_refused p faces folded r a (inl b) = drawn_or_folded p faces r (given_of p faces folded a) b
+folded_not_refused p faces folded r a (inr (others, g, b)) = unfolded_or_folded p faces others folded r a g b
+
 pub problems_are_not_refused : ProblemsAreNotRefused
-problems_are_not_refused p faces folded case r a (inl b) = drawn_or_folded p faces r (given_of p faces folded a.folds) b
-problems_are_not_refused p faces folded case r a (inr (inl (others, g, b))) = unfolded_or_folded p faces others folded r a.folds g b
+problems_are_not_refused p faces folded case r a (inl b) = folded_not_refused p faces folded r a.folds (inl b)
+problems_are_not_refused p faces folded case r a (inr (inl b)) = folded_not_refused p faces folded r a.folds (inr b)
 problems_are_not_refused p faces folded case r a (inr (inr (others, other, f, b))) =
     within_or_refused (sheet_of p faces folded) (counts p faces folded a.folds) r a.within (layered_there p faces others folded other r a.folds f b)
 
