@@ -9,5 +9,6 @@ mod Goings
 mod Fitting
 mod SheetLaw
 mod OneVerdict
+mod SomeVerdict
 mod Refining
 mod CaseGrounds

@@ -24,6 +24,10 @@ abbrev pub VerdictsAreOne : Type 0
 VerdictsAreOne = (g : Sheet) (pins : List Pin) (lines : List LogLine) (v w : Verdict) → IsVerdict (sheet_ground g pins) lines v
     → IsVerdict (sheet_ground g pins) lines w → v ≡ w
 
+-- It can't be that a log has no verdict. It is said by what can't be, since no definition decides which it is.
+abbrev pub EachLogHasVerdict : Type 0
+EachLogHasVerdict = (g : Sheet) (pins : List Pin) (lines : List LogLine) → ((v : Verdict) → IsVerdict (sheet_ground g pins) lines v → ⊥) → ⊥
+
 -- a log that closes over the sheet's case is accepted for the sheet
 abbrev pub CaseLogsAreAccepted : Sheet → Type 0
 CaseLogsAreAccepted g = (case : Case) (pins : List Pin) (lines : List LogLine) → IsCaseOf g case → IsAcceptedIn case pins lines → IsAccepted g pins lines

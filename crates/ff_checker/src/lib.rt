@@ -10,5 +10,5 @@ mod taking;
 mod verdicts;
 
 pub use checking::check;
-pub use laws::{accepted_logs_refute, case_logs_are_accepted, one_verdict};
+pub use laws::{accepted_logs_refute, case_logs_are_accepted, one_verdict, some_verdict};
 pub use verdicts::{Verdict, WhyNot};

@@ -3,4 +3,5 @@ mod PlaceLaws
 mod CiteLaws
 mod LineLaws
 mod LogLaws
+mod OneLog
 mod Others

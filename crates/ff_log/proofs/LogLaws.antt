@@ -19,10 +19,10 @@ Texts = List (List ℕ)
 abbrev pub AreRead : Texts → List LogLine → Type 0
 AreRead ts ls = map (λ t. line_of t) ts ≡ map (λ l. Some l) ls
 
-none_spells : (t : List ℕ) → line_of t ≡ None → IsSpelled t → ⊥
+pub none_spells : (t : List ℕ) → line_of t ≡ None → IsSpelled t → ⊥
 none_spells t h s = let e = line_again s.0 s.1 in let f = ap line_of s.2 in cc
 
-some_spells : (t : List ℕ) (l : LogLine) → line_of t ≡ Some l → IsSpelled t
+pub some_spells : (t : List ℕ) (l : LogLine) → line_of t ≡ Some l → IsSpelled t
 some_spells t l h = let s = line_sound t l h in (l, s.0, s.1)
 
 all_more : (P : LogLine → Type 0) (l : LogLine) (ls : List LogLine) → P l → All P ls → (k : ℕ) (d : LogLine) → k < length (l ∷ ls) → P (slice_index_or (l ∷ ls) k d)
@@ -43,7 +43,7 @@ all_sound (t ∷ ts) (l ∷ ls) h =
       are_spelled = ap₂ (λ (x : List ℕ) (xs : Texts). x ∷ xs) s.1 r.are_spelled;
     }
 
-all_again : (ls : List LogLine) → All IsLine ls → AreRead (map spelling ls) ls
+pub all_again : (ls : List LogLine) → All IsLine ls → AreRead (map spelling ls) ls
 all_again [] a = refl
 all_again (l ∷ ls) a =
     ap₂ (λ (o : Option LogLine) (os : List (Option LogLine)). o ∷ os) (line_again l (a 0 l (omega arith))) (all_again ls (λ k d lt. a (suc k) d (omega (arith, lt))))

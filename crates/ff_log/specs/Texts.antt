@@ -1,5 +1,5 @@
 -- Which texts are the lines of a log, and which text is the first that isn't one. This project's own.
-use Rattle.std.specs.Prelude.{◌≡◌, ◌<◌, ℕ, List, [], length, map, slice_index_or, Result, Ok, Err}
+use Rattle.std.specs.Prelude.{◌≡◌, ◌<◌, ◌⊎◌, ℕ, List, [], length, map, slice_index_or, Result, Ok, Err}
 use Rattle.std.specs.List.{All}
 use Rattle.ff_log.specs.Spelling.{IsLine, spelling}
 use Rattle.ff_log.specs.declared.logs.Log.{Log}
@@ -32,3 +32,10 @@ abbrev pub Gives : List LogLine → Result Log LogNo → Type 0
 Gives lines (Ok log) = log.lines ≡ lines
 Gives lines (Err no.NoMemory) = Unit {0}
 Gives lines (Err (no.BadLog i)) = ⊥
+
+-- Texts are the lines of one log or have one first text that is no line, never both, and always one of these.
+pub record TextsAreOne : Type 0 where
+  pub lines : (texts : List (List ℕ)) (ls ks : List LogLine) → SpellLines texts ls → SpellLines texts ks → ls ≡ ks
+  pub bad : (texts : List (List ℕ)) (i k : ℕ) → IsFirstBad texts i → IsFirstBad texts k → i ≡ k
+  pub not_both : (texts : List (List ℕ)) (ls : List LogLine) (i : ℕ) → SpellLines texts ls → IsFirstBad texts i → ⊥
+  pub some : (texts : List (List ℕ)) → ((ls : List LogLine) × SpellLines texts ls) ⊎ ((i : ℕ) × IsFirstBad texts i)
