@@ -1,0 +1,4 @@
+mod Reading
+mod Refuting
+mod OneJudgement
+mod SomeJudgement

@@ -1,0 +1,27 @@
+-- What `check` answers: whether the log is accepted, and the line. This project's own.
+use Rattle.std.specs.Prelude.{◌≡◌, ℕ, ◌⊎◌, Bool, true, false, List}
+use Rattle.ff_types.specs.declared.refusals.Refusal.{Refusal}
+use Rattle.ff_report.specs.Refusals.{refusal_line}
+use Rattle.ff_judged.specs.declared.judging.Judgement.{Judgement}
+use Rattle.ff_judged.specs.Judgements.{IsJudged, IsRefused, accepts}
+use Rattle.ff_judged.specs.Lines.{judgement_line}
+
+-- the line of a refusal
+abbrev pub AnswersRefused : List ℕ → Bool → List ℕ → Type 0
+AnswersRefused bytes accepted text = (accepted ≡ false) × ((r : Refusal) × IsRefused bytes r × (text ≡ refusal_line r))
+
+-- the line of what is answered to the log
+abbrev pub AnswersJudged : List ℕ → Bool → List ℕ → Type 0
+AnswersJudged bytes accepted text = (j : Judgement) × IsJudged bytes j × (accepted ≡ accepts j) × (text ≡ judgement_line j)
+
+-- one of the two
+abbrev pub AnswersCheck : List ℕ → Bool → List ℕ → Type 0
+AnswersCheck bytes accepted text = AnswersRefused bytes accepted text ⊎ AnswersJudged bytes accepted text
+
+-- two answers to the same bytes are the same
+abbrev pub OneAnswer : Type 0
+OneAnswer = (bytes : List ℕ) (a b : Bool) (x y : List ℕ) → AnswersCheck bytes a x → AnswersCheck bytes b y → (a ≡ b) × (x ≡ y)
+
+-- It can't be that bytes have no answer. It is said by what can't be, since no definition decides which it is.
+abbrev pub SomeAnswer : Type 0
+SomeAnswer = (bytes : List ℕ) → ((accepted : Bool) (text : List ℕ) → AnswersCheck bytes accepted text → ⊥) → ⊥
