@@ -40,13 +40,13 @@ module _ (reads : CheckIsOne) (texts : TextsAreOne) (verdicts : EachLogHasVerdic
   judged : (j : Judgement) → IsJudged bytes j → ⊥
   judged j h = none (accepts j) (judgement_line j) (inr (j, h, refl, refl))
 
-  folded : length bytes ≤ MOST_CHECK_BYTES → (input : CheckInput) → IsCheck bytes input → (faces : Faces) (folded : Folded) → IsFoldedPattern input.pattern faces folded → ⊥
-  folded within input read faces folded h = some_judgement texts verdicts (sheet_of input.pattern faces folded) input.pins input.lines
+  of_folded : length bytes ≤ MOST_CHECK_BYTES → (input : CheckInput) → IsCheck bytes input → (faces : Faces) (folded : Folded) → IsFoldedPattern input.pattern faces folded → ⊥
+  of_folded within input read faces folded h = some_judgement texts verdicts (sheet_of input.pattern faces folded) input.pins input.lines
       (λ j judges. judged j (is_judged bytes input faces folded j law (record { within = within; read = read; folds = h }) judges))
 
   of_bytes : length bytes ≤ MOST_CHECK_BYTES → ⊥
   of_bytes within = reads.some bytes
-      (λ input read. patterns_fold input.pattern (λ r h. refused r (inr (within, inr (input, read, h)))) (folded within input read))
+      (λ input read. patterns_fold input.pattern (λ r h. refused r (inr (within, inr (input, read, h)))) (of_folded within input read))
       (λ r h. refused r (inr (within, inl h)))
 
   of_length : (MOST_CHECK_BYTES < length bytes) ⊎ (length bytes ≤ MOST_CHECK_BYTES) → ⊥

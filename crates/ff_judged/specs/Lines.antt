@@ -21,10 +21,14 @@ why_name AfterEnd = codes "after end"
 abbrev pub bad_line : ℕ → List ℕ
 bad_line n = codes "refused log " ++ decimal n ++ codes " bad line\n"
 
--- `accepted`, or `refused log LINE WHY`
+-- `refused log LINE WHY`
+abbrev pub refused_line : ℕ → WhyNot → List ℕ
+refused_line n why = codes "refused log " ++ decimal n ++ codes " " ++ why_name why ++ codes "\n"
+
+-- `accepted`, or why not
 abbrev pub verdict_line : Verdict → List ℕ
 verdict_line Accepted = codes "accepted\n"
-verdict_line (Refused n why) = codes "refused log " ++ decimal n ++ codes " " ++ why_name why ++ codes "\n"
+verdict_line (Refused n why) = refused_line n why
 
 -- the line for what is answered to a log
 abbrev pub judgement_line : Judgement → List ℕ

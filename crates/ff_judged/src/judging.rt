@@ -6,7 +6,7 @@ ghost use Rattle.ff_read.specs.Checks.{ArePins, IsCheck};
 ghost use Rattle.ff_judged.specs.Judgements.{IsJudged, JudgesLog, WhyNotJudged, accepts};
 
 use crate::sheets::{FoldedSheet, folded_sheet};
-use ff_checker::{Verdict, check};
+use ff_checker::{Verdict, accepted_logs_refute, check};
 use ff_log::{LogNo, read_log};
 use ff_read::{CheckInput, read_check};
 use ff_tables::NoMemory;
@@ -91,6 +91,7 @@ pub fn judged(alloc: Global, bytes: &[u8]) -> Result<Judgement, No>
     requires { length bytes.now ≤ MOST_CHECK_BYTES }
     ensures { MatchResult result (IsJudged bytes.now) (WhyNotJudged bytes.now) }
 {
+    accepted_logs_refute();
     let input = input_of(alloc, bytes)?;
     let sheet = sheet_of_input(alloc, bytes, &input)?;
     Ok(judgement_of(alloc, &input, &sheet)?)
