@@ -1,5 +1,5 @@
 -- The answer to the bytes of `check` is one.
-use Rattle.std.proofs.Common.{◌≡◌, ◌<◌, ◌⊎◌, inl, inr, ◌∙◌, ℕ, Bool, true, List, length, refl, ap, sym, subst, arith}
+use Rattle.std.proofs.Common.{◌≡◌, inl, inr, ◌∙◌, ℕ, Bool, List, ap, sym, subst, arith}
 use Rattle.ff_types.specs.declared.patterns.Pattern.{Pattern}
 use Rattle.ff_types.specs.declared.pins.Pin.{Pin}
 use Rattle.ff_types.specs.declared.faces.Faces.{Faces}
@@ -24,7 +24,7 @@ use Rattle.ff_judged.specs.declared.judging.Judgement.TheVariants.{BadLine, Chec
 use Rattle.ff_judged.specs.Sheets.{RefusesSheet}
 use Rattle.ff_judged.specs.Judgements.{IsJudged, IsRefused, JudgesLog, RefusesRead, accepts}
 use Rattle.ff_judged.specs.Lines.{judgement_line}
-use Rattle.ff_judged.specs.Answers.{AnswersCheck, AnswersJudged, AnswersRefused, OneAnswer}
+use Rattle.ff_judged.specs.Answers.{AnswersCheck, OneAnswer}
 
 -- a refusal of the sheet is one of the pattern
 whole_refusal : (p : Pattern) (r : Refusal) → RefusesSheet p r → RefusesProblem p r

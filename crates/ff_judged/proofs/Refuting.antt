@@ -1,17 +1,15 @@
 -- What is answered to the log of an input is what is answered to its bytes.
-use Rattle.std.proofs.Common.{◌≡◌, ℕ, ◌≤◌, List, length, subst}
+use Rattle.std.proofs.Common.{◌≡◌, ℕ, List, subst}
 use Rattle.ff_types.specs.declared.pins.Pin.{Pin}
 use Rattle.ff_types.specs.declared.faces.Faces.{Faces}
 use Rattle.ff_types.specs.declared.faces.Folded.{Folded}
-use Rattle.ff_types.specs.FoldedPatterns.{IsFoldedPattern}
 use Rattle.ff_types.specs.Sheets.{Sheet, sheet_of}
 use Rattle.ff_borders.specs.Folded.{OfEachFolded}
 use Rattle.ff_checker.specs.declared.verdicts.Verdict.TheVariants.{Accepted}
 use Rattle.ff_checker.specs.LogLaws.{AcceptedLogsRefute, HasNoStacking}
 use Rattle.ff_read.specs.declared.checks.CheckInput.{CheckInput}
-use Rattle.ff_read.specs.Checks.{IsCheck}
 use Rattle.ff_judged.specs.declared.judging.Judgement.{Judgement}
-use Rattle.ff_judged.specs.declared.judging.Judgement.TheVariants.{BadLine, Checked}
+use Rattle.ff_judged.specs.declared.judging.Judgement.TheVariants.{Checked}
 use Rattle.ff_judged.specs.Judgements.{IsJudged, JudgesLog, ReadsSheet}
 
 -- an accepted log leaves no stacking

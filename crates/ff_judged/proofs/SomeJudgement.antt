@@ -1,5 +1,5 @@
 -- It can't be that bytes have no answer of `check`.
-use Rattle.std.proofs.Common.{◌≡◌, ◌<◌, ◌≤◌, ◌⊎◌, inl, inr, ℕ, Bool, false, List, length, refl}
+use Rattle.std.proofs.Common.{◌<◌, ◌≤◌, ◌⊎◌, inl, inr, ℕ, Bool, false, List, length, refl}
 use Rattle.std.proofs.lemmas.Bool.{cases_lt}
 use Rattle.ff_types.specs.declared.pins.Pin.{Pin}
 use Rattle.ff_types.specs.declared.faces.Faces.{Faces}

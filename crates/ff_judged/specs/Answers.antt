@@ -1,5 +1,5 @@
 -- What `check` answers: whether the log is accepted, and the line. This project's own.
-use Rattle.std.specs.Prelude.{◌≡◌, ℕ, ◌⊎◌, Bool, true, false, List}
+use Rattle.std.specs.Prelude.{◌≡◌, ℕ, ◌⊎◌, Bool, false, List}
 use Rattle.ff_types.specs.declared.refusals.Refusal.{Refusal}
 use Rattle.ff_report.specs.Refusals.{refusal_line}
 use Rattle.ff_judged.specs.declared.judging.Judgement.{Judgement}

@@ -61,7 +61,11 @@ fn sheet_of_input(alloc: Global, bytes: &[u8], input: &CheckInput) -> Result<Fol
 }
 
 // What is answered to its log on the folded sheet.
-fn judgement_of(alloc: Global, input: &CheckInput, sheet: &FoldedSheet) -> Result<Judgement, NoMemory>
+fn judgement_of(
+    alloc: Global,
+    input: &CheckInput,
+    sheet: &FoldedSheet,
+) -> Result<Judgement, NoMemory>
     requires folded { IsFoldedPattern input.now.pattern sheet.now.faces sheet.now.folded }
     requires pins { ArePins input.now.pins }
     requires few { length input.now.lines < 2 ^ 32 }

@@ -1,5 +1,5 @@
 -- What an accordion comes to.
-use Rattle.std.proofs.Common.{◌≡◌, ℕ, ◌≤◌, ◌<◌, ◌^◌, length, Result, Ok, Err, IfOk, IfErr, MatchResult, arith}
+use Rattle.std.proofs.Common.{ℕ, ◌≤◌, ◌<◌, ◌^◌, length, Result, Ok, Err, IfOk, IfErr, MatchResult, arith}
 use Rattle.ff_tables.specs.declared.memory.NoMemory.{NoMemory}
 use Rattle.ff_types.specs.declared.patterns.Pattern.{Pattern}
 use Rattle.ff_types.specs.declared.faces.Faces.{Faces}

@@ -1,5 +1,5 @@
 -- It can't be that a count has no answer of `make`.
-use Rattle.std.proofs.Common.{◌≡◌, inl, inr, ℕ, ◌<◌, ◌≤◌, List, length, Option, Some, None, refl}
+use Rattle.std.proofs.Common.{inl, inr, ℕ, List, length, Option, Some, None, refl}
 use Rattle.ff_types.specs.declared.patterns.Pattern.{Pattern}
 use Rattle.ff_types.specs.declared.faces.Faces.{Faces}
 use Rattle.ff_types.specs.declared.faces.Folded.{Folded}

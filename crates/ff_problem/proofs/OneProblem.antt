@@ -35,7 +35,7 @@ use Rattle.ff_reflect.proofs.OneRefusal.{one_refusal as one_unfolded_refusal}
 use Rattle.ff_reflect.proofs.Refused.{none_near}
 use Rattle.ff_reflect.specs.Folding.{IsRefused}
 use Rattle.ff_problem.specs.Limits.{RefusesCase, IsWithinLimits}
-use Rattle.ff_problem.specs.Problems.{IsProblem, RefusesAsDrawn, RefusesAsFolded}
+use Rattle.ff_problem.specs.Problems.{RefusesAsDrawn, RefusesAsFolded}
 use Rattle.ff_problem.specs.Laws.{ProblemIsOne, ProblemsAreNotRefused, ProblemRefusalIsOne}
 
 -- ---- the faces beside an edge are determined

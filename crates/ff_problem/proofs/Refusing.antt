@@ -1,5 +1,5 @@
 -- Why a folded sheet has no case, from the lists that are too long.
-use Rattle.std.proofs.Common.{◌≡◌, ◌≢◌, ◌⊎◌, inl, inr, ℕ, ◌<◌, ◌∙◌, Bool, true, false, ◌&&◌, ◌||◌, List, [], ◌∷◌, ◌++◌, length, length-append, map, slice_get, slice_index, Some, IsTrue, refl, ap, sym, subst, arith}
+use Rattle.std.proofs.Common.{◌≡◌, ◌≢◌, ◌⊎◌, inl, inr, ℕ, ◌<◌, ◌∙◌, Bool, true, false, ◌&&◌, List, [], ◌∷◌, ◌++◌, length, length-append, map, slice_get, slice_index, Some, IsTrue, refl, ap, sym, subst, arith}
 use Rattle.std.proofs.lemmas.Bool.{false≢true}
 use Rattle.std.proofs.lemmas.List.{length-map}
 use Rattle.ff_basics.proofs.Tests.{both_of, either_of}
@@ -32,8 +32,8 @@ use Rattle.ff_edges.specs.declared.edge_face.EdgeFace.{EdgeFace}
 use Rattle.ff_edges.specs.SharedSegments.{WhyNoEdgePairs, constrain, beside_both}
 use Rattle.ff_edges.specs.EdgesInside.{AreNoEdgeFaces, is_inner_edge}
 use Rattle.ff_pairs.specs.Together.{WhyNoPairs}
-use Rattle.ff_trans.specs.Triples.{WhyNoTriples, AreTriples}
-use Rattle.ff_tacos.specs.Tacos.{AreTooMany, AreTacos}
+use Rattle.ff_trans.specs.Triples.{WhyNoTriples}
+use Rattle.ff_tacos.specs.Tacos.{AreTooMany}
 use Rattle.ff_types.specs.Splitting.{cite_of}
 use Rattle.ff_types.specs.declared.limits.TheConstants.{MOST_CONSTRAINTS}
 use Rattle.ff_cells.specs.SlabCells.{HasFewCells}

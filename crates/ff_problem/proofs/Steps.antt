@@ -1,5 +1,5 @@
 -- The steps on the way to the case.
-use Rattle.std.proofs.Common.{◌≡◌, ℕ, ◌<◌, ◌≤◌, ◌∙◌, List, [], ◌∷◌, length, map, Contains, Result, Ok, Err, IfOk, IfErr, refl, ap, sym, subst, arith}
+use Rattle.std.proofs.Common.{ℕ, ◌≤◌, List, length, Result, Ok, Err, IfOk}
 use Rattle.std.specs.List.{All}
 use Rattle.ff_types.specs.declared.patterns.Pattern.{Pattern}
 use Rattle.ff_types.specs.declared.cites.Listed.{Listed}
@@ -11,8 +11,6 @@ use Rattle.ff_types.specs.Sheets.{Sheet, sheet_of}
 use Rattle.ff_cells.specs.declared.cell.Cell.{Cell}
 use Rattle.ff_cells.specs.SlabCells.{HasFewCells}
 use Rattle.ff_cells.specs.FaceSets.{HaveFaceSets, IsFaceList}
-use Rattle.ff_pairs.specs.Together.{ArePairsOf}
-use Rattle.ff_types.specs.declared.limits.TheConstants.{MOST_PAIRS}
 use Rattle.ff_trans.specs.Triples.{AreTriples}
 use Rattle.ff_types.specs.declared.limits.TheConstants.{MOST_CONSTRAINTS}
 use Rattle.ff_problem.specs.Layers.{AreFewCells, AreFewPairs, AreLayers}
