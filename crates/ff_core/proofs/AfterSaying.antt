@@ -15,7 +15,8 @@ use Rattle.ff_journal.specs.declared.entries.Outcome.TheVariants as outcome
 use Rattle.ff_journal.specs.Epochs.{is_change, changes, last_begun, givens_of}
 use Rattle.ff_journal.specs.Publications.{published}
 use Rattle.ff_journal.specs.Journals.{IsSaid}
-use Rattle.ff_core.specs.States.{State, WorksOn, ShowsLast, AreAllPages, KeepsPages, StandsFor, AreOpening, IsFirstGiven}
+use Rattle.ff_told.specs.Paged.{AreAllPages}
+use Rattle.ff_core.specs.States.{State, WorksOn, ShowsLast, KeepsPages, StandsFor, AreOpening, IsFirstGiven}
 use Rattle.ff_core.specs.Steps.{WorkNext, WorksOnAfter, ReopensFrom, IsReopened}
 use Rattle.ff_pages.specs.declared.pages.Pages.{Pages}
 use Rattle.ff_journal.specs.Shown.{AreFactsOf, NamesFit}

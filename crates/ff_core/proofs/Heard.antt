@@ -23,7 +23,7 @@ use Rattle.ff_core.specs.States.{State, ShowsLast, StandsFor, IsSameButPages}
 use Rattle.ff_core.specs.Steps.{Says, WorksOnAfter, IsReopened}
 use Rattle.ff_core.proofs.AfterSaying.{said_in, entered_stands, entered_says, begun_room, taken_back, not_empty}
 use Rattle.std.specs.Prelude.{IfSome}
-use Rattle.ff_core.specs.Paged.{AnswersLast}
+use Rattle.ff_told.specs.Paged.{AnswersLast}
 use Rattle.ff_core.proofs.Kept.{shown_are, something_shown}
 
 -- ---- what is published

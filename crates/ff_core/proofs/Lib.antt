@@ -5,7 +5,5 @@ mod Opened
 mod Scanned
 mod Refuted
 mod Kept
-mod Choosing
-mod Filled
 mod Ran
 mod Heard

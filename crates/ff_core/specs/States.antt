@@ -1,18 +1,17 @@
 -- The state of the core, and for which cases it stands. This project's own.
-use Rattle.std.specs.Prelude.{◌≡◌, ℕ, ◌+◌, ◌<◌, ◌≤◌, List, length, map, slice_get, Option, Some, None}
+use Rattle.std.specs.Prelude.{◌≡◌, ℕ, ◌+◌, ◌<◌, ◌≤◌, List, length, slice_get, Option, Some, None}
 use Rattle.ff_tables.specs.declared.orders.Order.{Order}
 use Rattle.ff_tables.specs.declared.givens.Given.{Given}
 use Rattle.ff_types.specs.declared.cases.Case.{Case}
 use Rattle.ff_propagate.specs.declared.facts.Fact.{Fact}
 use Rattle.ff_propagate.specs.declared.facts.Reason.TheVariants as reason
-use Rattle.ff_propagate.specs.Facts.{fact_at, value_at}
-use Rattle.ff_propagate.specs.Parts.{AreParts}
+use Rattle.ff_propagate.specs.Facts.{fact_at}
 use Rattle.ff_propagate.specs.Giving.{NoneBefore}
 use Rattle.ff_journal.specs.declared.entries.Entry.{Entry}
 use Rattle.ff_journal.specs.declared.entries.Outcome.{Outcome}
 use Rattle.ff_journal.specs.declared.entries.Outcome.TheVariants as outcome
 use Rattle.ff_pages.specs.declared.pages.Pages.{Pages}
-use Rattle.ff_pages.specs.Paging.{StandsIn}
+use Rattle.ff_told.specs.Paged.{AreAllPages}
 use Rattle.ff_journal.specs.Epochs.{last_begun, givens_of}
 use Rattle.ff_journal.specs.Publications.{published, IsLast}
 use Rattle.ff_journal.specs.Shown.{AreFactsOf, AreShown}
@@ -36,22 +35,6 @@ abbrev pub ShowsLast : Case → List Entry → Option (List (Option Fact)) → T
 ShowsLast case journal None = published journal ≡ 0
 ShowsLast case journal (Some fs) = (e : ℕ) × (last : Outcome) × IsLast journal e last × AreShown case journal e last fs
 
--- the pages of a part of these facts, which are by the fact rule under these givens
-pub record ArePagesOf (case : Case) (budget : ℕ) (gs : List Given) (fs : List (Option Fact)) (p : Pages) : Type 0 where
-  pub stands : StandsIn case.system.vars case.system.constraints p
-  pub givens : p.givens.value ≡ gs
-  pub facts : p.facts.value ≡ fs
-  pub budgeted : p.budget ≡ budget
-
--- the variables of each one's part
-abbrev pub parts_of : List Pages → List (List ℕ)
-parts_of pages = map (λ p. p.part.vars) pages
-
--- the pages of all parts of a board
-pub record AreAllPages (case : Case) (budget : ℕ) (gs : List Given) (fs : List (Option Fact)) (pages : List Pages) : Type 0 where
-  pub parts : AreParts case.system.vars case.system.constraints (value_at fs) (parts_of pages)
-  pub each : (i : ℕ) (p : Pages) → slice_get pages i ≡ Some p → ArePagesOf case budget gs fs p
-
 -- where pages are kept they are those of the last published board
 abbrev pub KeepsPages : Case → ℕ → List Entry → Option (List (Option Fact)) → Option (List Pages) → Type 0
 KeepsPages case budget journal shown None = Unit {0}
@@ -66,6 +49,10 @@ pub record StandsFor (case : Case) (core : State) : Type 0 where
   pub works : WorksOn case core.journal core.working
   pub shows : ShowsLast case core.journal core.shown
   pub keeps : KeepsPages case core.budget core.journal core.shown core.pages
+
+-- the pages are there
+abbrev pub IsLaid : State → Type 0
+IsLaid core = (pages : List Pages) × (core.pages ≡ Some pages)
 
 -- all but the pages is the same
 pub record IsSameButPages (old new : State) : Type 0 where

@@ -6,19 +6,16 @@ ghost use Rattle.ff_propagate.specs.FactRule.{MeetsFactRule, HasGivenFact};
 ghost use Rattle.ff_propagate.specs.Closing.{Contradict, GivensFit};
 ghost use Rattle.ff_propagate.specs.Closure.{HoldsGivens};
 ghost use Rattle.ff_refute.specs.Givens.{IsClash};
-ghost use Rattle.ff_journal.specs.Epochs.{givens_of as epoch_givens, pins_of, pin_of_given, last_begun};
+ghost use Rattle.ff_journal.specs.Epochs.{givens_of as epoch_givens, last_begun};
 ghost use Rattle.ff_journal.specs.Publications.{IsOutcome};
 ghost use Rattle.ff_core.specs.Ends.{IsMet, IsContradicted, ComesTo, IsRefuted};
 
 use crate::scanning::{Scanned, scan};
 use ff_journal::{Entry, Outcome, board_of, givens_of};
-use ff_propagate::{
-    ClashAt, Fact, Facts, Reason, contradictions_clash, dead_facts_clash,
-    quiet_facts_are_the_closure,
-};
-use ff_refute::log_of_clash;
+use ff_propagate::{ClashAt, Fact, Facts, Reason, quiet_facts_are_the_closure};
 use ff_tables::{Given, Items, NoMemory, Order};
-use ff_types::{Case, Pin};
+use ff_told::refutation;
+use ff_types::Case;
 use std::alloc::Global;
 
 /// What facts come to: some constraint forces more, or the epoch ends with this outcome.
@@ -83,42 +80,6 @@ fn contradiction(case: &Case, givens: &[Given], facts: &Facts) -> Option<ClashAt
     None
 }
 
-// The pin of a given on a pair of the case.
-fn pin_of(case: &Case, given: Given) -> Pin
-    requires { given.var < length case.now.pairs }
-    ensures { result ≡ pin_of_given case.now.pairs given }
-{
-    let (f, g) = case.pairs.faces(given.var);
-    Pin {
-        f,
-        g,
-        value: given.value,
-    }
-}
-
-// The pins in force of an epoch, by its givens.
-fn pins_in(
-    alloc: Global,
-    case: &Case,
-    journal: &Items<Entry>,
-    epoch: u32,
-    givens: &[Given],
-) -> Result<Items<Pin>, NoMemory>
-    requires givens { givens.now ≡ epoch_givens case.now journal.now epoch }
-    ensures { IfOk result (λ pins. pins ≡ pins_of case.now journal.now epoch) }
-{
-    let _ = journal;
-    let _ = epoch;
-    // the pairs are in order
-    let _ = case.pairs.count();
-    let starts = case.starts.as_slice();
-    let mut pins = Vec::new(alloc);
-    for i in starts.len()..givens.len() {
-        pins.push(pin_of(case, givens[i]))?;
-    }
-    Ok(Items::of(pins))
-}
-
 // The outcome of an epoch whose givens clash.
 fn refuted(
     alloc: Global,
@@ -134,14 +95,12 @@ fn refuted(
     requires clash { IsClash case.now.system.constraints givens.now facts.now at }
     ensures { IfOk result (λ outcome. IsRefuted case.now journal.now epoch outcome) }
 {
-    contradictions_clash();
-    dead_facts_clash();
+    let _ = journal;
+    let _ = epoch;
     // the pairs are in order
     let _ = case.pairs.count();
-    let log = log_of_clash(alloc, case, givens, facts, at)?;
-    let list = givens.as_slice();
-    let pins = pins_in(alloc, case, journal, epoch, list)?;
-    Ok(Outcome::Impossible { pins, log })
+    let outcome = refutation(alloc, case, givens, facts, at)?;
+    Ok(outcome)
 }
 
 // What facts come to that hold the givens.

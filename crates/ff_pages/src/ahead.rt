@@ -48,8 +48,8 @@ impl Pages {
         self.part.vars.as_slice().len() as u64
     }
 
-    // Whether all nodes are visited, or the rest of the budget doesn't cover the next.
-    fn is_closed(&self, case: &Case) -> bool
+    /// Whether all nodes are visited, or the rest of the budget doesn't cover the next. It takes no memory.
+    pub fn is_closed(&self, case: &Case) -> bool
         requires stands { StandsIn case.now.system.vars case.now.system.constraints self.now }
         ensures { TellsClosed case.now.system.constraints self.now result }
     {

@@ -1,7 +1,7 @@
 use Rattle.std.proofs.Common.{sym, subst}
 use Rattle.ff_journal.proofs.LastPublished.{shown_board}
 use Rattle.ff_core.specs.States.{State, StandsFor}
-use Rattle.ff_core.specs.Paged.{ShowsBoard}
+use Rattle.ff_told.specs.Paged.{ShowsBoard}
 use Rattle.ff_core.proofs.Heard.{shown_last}
 use Rattle.ff_core.proofs.state.Core.lay_all.Goals as goal
 

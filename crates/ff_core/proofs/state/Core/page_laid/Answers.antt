@@ -4,9 +4,10 @@ use Rattle.ff_propagate.specs.declared.facts.Fact.{Fact}
 use Rattle.ff_pages.specs.declared.pages.Pages.{Pages}
 use Rattle.ff_viewer.specs.declared.commands.Question.TheVariants.{Page}
 use Rattle.ff_core.specs.States.{State, StandsFor}
-use Rattle.ff_core.specs.Paged.{HavePages, KeepAllPages, IsPageToldAt, AnswersLast}
-use Rattle.ff_core.proofs.Kept.{AreKept, are_kept, shown_some, have_pages, pages_on, page_answers}
-use Rattle.ff_core.proofs.Filled.{written}
+use Rattle.ff_told.specs.Paged.{HavePages, KeepAllPages, IsPageToldAt, AnswersLast}
+use Rattle.ff_told.proofs.Kept.{AreKept, have_pages, page_answers}
+use Rattle.ff_core.proofs.Kept.{are_kept, shown_some, pages_on}
+use Rattle.ff_told.proofs.Filled.{written}
 use Rattle.ff_core.proofs.state.Core.page_laid.Goals as goal
 use Rattle.ff_core.proofs.state.Core.page_laid.Goals.{After-as_mut_slice, After-page_told}
 

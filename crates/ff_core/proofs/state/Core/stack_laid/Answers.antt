@@ -3,10 +3,11 @@ use Rattle.std.specs.Prelude.{option_map}
 use Rattle.ff_pages.specs.declared.pages.Pages.{Pages}
 use Rattle.ff_viewer.specs.declared.commands.Question.TheVariants.{Stack}
 use Rattle.ff_core.specs.States.{State, StandsFor}
-use Rattle.ff_core.specs.Paged.{HavePages, KeepAllPages, AnswersLast}
-use Rattle.ff_core.specs.Stacked.{IsStackTold}
-use Rattle.ff_core.proofs.Kept.{AreKept, are_kept, have_pages, pages_on}
-use Rattle.ff_core.proofs.Filled.{written, stack_answers}
+use Rattle.ff_told.specs.Paged.{HavePages, KeepAllPages, AnswersLast}
+use Rattle.ff_told.specs.Stacked.{IsStackTold}
+use Rattle.ff_told.proofs.Kept.{AreKept, have_pages}
+use Rattle.ff_core.proofs.Kept.{are_kept, pages_on}
+use Rattle.ff_told.proofs.Filled.{written, stack_answers}
 use Rattle.ff_core.proofs.state.Core.stack_laid.Goals as goal
 use Rattle.ff_core.proofs.state.Core.stack_laid.Goals.{After-as_mut_slice, After-stack_told}
 

@@ -1,6 +1,0 @@
-use Rattle.std.proofs.Common.{take}
-use Rattle.ff_core.specs.Paged.{AreLaid}
-use Rattle.ff_core.proofs.paging.pages_of.Given as goal
-
-abbrev pub invariant-loop-i : goal.invariant-loop-i
-invariant-loop-i l = AreLaid l.case l.budget l.givens.value l.facts.value (take l.i l.parts) l.pages.items

@@ -1,0 +1,4 @@
+pub mod Refuted
+pub mod Kept
+pub mod Choosing
+pub mod Filled
