@@ -1,5 +1,4 @@
 -- What the numbers of a `stack` give, part by part. This project's own.
--- For the proofs of this crate alone.
 use Rattle.std.specs.Prelude.{◌≡◌, ℕ, ◌<◌, ◌≤◌, List, length, map, take, slice_get, slice_index, slice_index_or, Option, Some, None}
 use Rattle.ff_tables.specs.declared.orders.Order.{Order}
 use Rattle.ff_tables.specs.declared.givens.Given.{Given}

@@ -1,4 +1,5 @@
--- What is found before an offer.
+-- What is found before an offer. This project's own.
+-- For the proofs of this crate alone.
 use Rattle.std.specs.Prelude.{◌≡◌, ℕ, ◌<◌, List, length, slice_index_or, Option, Some, None}
 use Rattle.ff_tables.specs.declared.orders.Order.{Order}
 use Rattle.ff_tables.specs.declared.terms.Term.{Term}
