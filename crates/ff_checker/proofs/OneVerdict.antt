@@ -1,5 +1,5 @@
 -- A log over a folded sheet has one verdict.
-use Rattle.std.proofs.Common.{◌≡◌, ◌∙◌, ℕ, zero, suc, ◌<◌, ◌≤◌, ◌⊎◌, inl, inr, true, false, List, [], ◌∷◌, length, take, Option, Some, None, refl, sym, ap, ap₂, subst, arith}
+use Rattle.std.proofs.Common.{◌≡◌, ◌∙◌, ℕ, zero, suc, ◌<◌, inl, inr, List, [], ◌∷◌, length, take, Option, Some, None, refl, sym, ap, ap₂, subst, arith}
 use Rattle.std.specs.Prelude.{slice_get}
 use Rattle.std.proofs.lemmas.Bool.{false≢true, cases_order}
 use Rattle.std.proofs.lemmas.List.{take-take}
@@ -11,10 +11,9 @@ use Rattle.ff_log.specs.declared.logs.LogLine.TheVariants as line
 use Rattle.ff_log.specs.Logs.{State, start, Ground, declare, hold, Does, Takes, Reaches, Closes}
 use Rattle.ff_log.specs.Grounds.{sheet_ground}
 use Rattle.ff_checker.specs.declared.verdicts.WhyNot.{WhyNot}
-use Rattle.ff_checker.specs.declared.verdicts.WhyNot.TheVariants.{OpenBranch, AfterEnd}
 use Rattle.ff_checker.specs.declared.verdicts.Verdict.{Verdict}
 use Rattle.ff_checker.specs.declared.verdicts.Verdict.TheVariants.{Accepted, Refused}
-use Rattle.ff_checker.specs.Verdicts.{why_of, Stops, IsFirstBad, IsVerdict}
+use Rattle.ff_checker.specs.Verdicts.{Stops, IsFirstBad, IsVerdict}
 
 module _ (g : Sheet) (pins : List Pin) where
   abbrev ground : Ground

@@ -1,13 +1,13 @@
 -- It can't be that a log has no verdict.
-use Rattle.std.proofs.Common.{◌≡◌, ◌⊎◌, inl, inr, ℕ, zero, suc, ◌≤◌, Bool, true, false, List, [], ◌∷◌, length, take, Option, Some, None, refl, arith}
+use Rattle.std.proofs.Common.{◌≡◌, inl, inr, ℕ, suc, ◌≤◌, Bool, true, false, List, [], ◌∷◌, length, take, refl, arith}
 use Rattle.std.specs.Prelude.{slice_get}
 use Rattle.ff_log.specs.declared.logs.LogLine.{LogLine}
-use Rattle.ff_log.specs.Logs.{State, start, Ground, Does, Takes, Reaches, Closes}
+use Rattle.ff_log.specs.Logs.{State, start, Ground, Does, Takes, Reaches}
 use Rattle.ff_checker.specs.declared.verdicts.WhyNot.{WhyNot}
 use Rattle.ff_checker.specs.declared.verdicts.WhyNot.TheVariants.{OpenBranch, AfterEnd}
 use Rattle.ff_checker.specs.declared.verdicts.Verdict.{Verdict}
 use Rattle.ff_checker.specs.declared.verdicts.Verdict.TheVariants.{Accepted, Refused}
-use Rattle.ff_checker.specs.Verdicts.{why_of, Stops, IsFirstBad, IsVerdict}
+use Rattle.ff_checker.specs.Verdicts.{why_of, Stops, IsVerdict}
 
 module _ (ground : Ground) where
   -- the lines from this state on are all allowed and end the log

@@ -24,7 +24,7 @@ use Rattle.ff_judged.specs.declared.judging.Judgement.TheVariants.{BadLine, Chec
 use Rattle.ff_judged.specs.Sheets.{RefusesSheet}
 use Rattle.ff_judged.specs.Judgements.{IsJudged, IsRefused, JudgesLog, RefusesRead, accepts}
 use Rattle.ff_judged.specs.Lines.{judgement_line}
-use Rattle.ff_judged.specs.Answers.{AnswersCheck, OneAnswer}
+use Rattle.ff_judged.specs.Answers.{AnswersLog, OneAnswer}
 
 -- a refusal of the sheet is one of the pattern
 whole_refusal : (p : Pattern) (r : Refusal) → RefusesSheet p r → RefusesProblem p r
@@ -93,7 +93,7 @@ module _ (reads : CheckIsOne) (texts : TextsAreOne) (verdicts : VerdictsAreOne) 
 
   -- ---- answers
 
-  one_answers : (bytes : List ℕ) (a b : Bool) (x y : List ℕ) → AnswersCheck bytes a x → AnswersCheck bytes b y → (a ≡ b) × (x ≡ y)
+  one_answers : (bytes : List ℕ) (a b : Bool) (x y : List ℕ) → AnswersLog bytes a x → AnswersLog bytes b y → (a ≡ b) × (x ≡ y)
   one_answers bytes a b x y (inl (e, (q, p, f))) (inl (d, (r, s, g))) = (e ∙ sym d, f ∙ ap refusal_line (one_refusal bytes q r p s) ∙ sym g)
   one_answers bytes a b x y (inl (e, (q, p, f))) (inr (j, judged, d, g)) = absurd (not_refused bytes q j p judged)
   one_answers bytes a b x y (inr (j, judged, d, g)) (inl (e, (q, p, f))) = absurd (not_refused bytes q j p judged)

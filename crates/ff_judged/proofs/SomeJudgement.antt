@@ -22,7 +22,7 @@ use Rattle.ff_judged.specs.declared.judging.Judgement.{Judgement}
 use Rattle.ff_judged.specs.declared.judging.Judgement.TheVariants.{BadLine, Checked}
 use Rattle.ff_judged.specs.Judgements.{IsJudged, IsRefused, JudgesLog, accepts}
 use Rattle.ff_judged.specs.Lines.{judgement_line}
-use Rattle.ff_judged.specs.Answers.{AnswersCheck, SomeAnswer}
+use Rattle.ff_judged.specs.Answers.{AnswersLog, SomeAnswer}
 use Rattle.ff_judged.proofs.Refuting.{is_judged}
 
 -- a log is judged
@@ -33,7 +33,7 @@ some_judgement texts verdicts g pins ts none = by (texts.some ts) where
   by (inr (i, bad)) = none (BadLine i) bad
 
 module _ (reads : CheckIsOne) (texts : TextsAreOne) (verdicts : EachLogHasVerdict) (law : OfEachFolded AcceptedLogsRefute)
-    (bytes : List ℕ) (none : (accepted : Bool) (text : List ℕ) → AnswersCheck bytes accepted text → ⊥) where
+    (bytes : List ℕ) (none : (accepted : Bool) (text : List ℕ) → AnswersLog bytes accepted text → ⊥) where
   refused : (r : Refusal) → IsRefused bytes r → ⊥
   refused r h = none false (refusal_line r) (inl (refl, (r, h, refl)))
 

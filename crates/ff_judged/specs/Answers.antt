@@ -14,14 +14,14 @@ AnswersRefused bytes accepted text = (accepted ≡ false) × ((r : Refusal) × I
 abbrev pub AnswersJudged : List ℕ → Bool → List ℕ → Type 0
 AnswersJudged bytes accepted text = (j : Judgement) × IsJudged bytes j × (accepted ≡ accepts j) × (text ≡ judgement_line j)
 
--- one of the two
-abbrev pub AnswersCheck : List ℕ → Bool → List ℕ → Type 0
-AnswersCheck bytes accepted text = AnswersRefused bytes accepted text ⊎ AnswersJudged bytes accepted text
+-- whether the log is accepted, and the line: one of the two
+abbrev pub AnswersLog : List ℕ → Bool → List ℕ → Type 0
+AnswersLog bytes accepted text = AnswersRefused bytes accepted text ⊎ AnswersJudged bytes accepted text
 
 -- two answers to the same bytes are the same
 abbrev pub OneAnswer : Type 0
-OneAnswer = (bytes : List ℕ) (a b : Bool) (x y : List ℕ) → AnswersCheck bytes a x → AnswersCheck bytes b y → (a ≡ b) × (x ≡ y)
+OneAnswer = (bytes : List ℕ) (a b : Bool) (x y : List ℕ) → AnswersLog bytes a x → AnswersLog bytes b y → (a ≡ b) × (x ≡ y)
 
 -- It can't be that bytes have no answer. It is said by what can't be, since no definition decides which it is.
 abbrev pub SomeAnswer : Type 0
-SomeAnswer = (bytes : List ℕ) → ((accepted : Bool) (text : List ℕ) → AnswersCheck bytes accepted text → ⊥) → ⊥
+SomeAnswer = (bytes : List ℕ) → ((accepted : Bool) (text : List ℕ) → AnswersLog bytes accepted text → ⊥) → ⊥

@@ -1,7 +1,7 @@
 //! The answer to `check`.
 ghost use Rattle.std.specs.Prelude.{◌≡◌, ◌≤◌, IfOk, length, false, true};
 ghost use Rattle.ff_report.specs.Refusals.{refusal_line};
-ghost use Rattle.ff_judged.specs.Answers.{AnswersCheck};
+ghost use Rattle.ff_judged.specs.Answers.{AnswersLog};
 
 use crate::judging::{MOST_CHECK_BYTES, judged};
 use crate::texts::judgement_text;
@@ -30,7 +30,7 @@ fn refuse(alloc: Global, refusal: Refusal) -> Result<Answer, NoMemory>
 /// The answer to `check` on these bytes.
 pub fn answer_of(alloc: Global, bytes: &[u8]) -> Result<Answer, NoMemory>
     requires { length bytes.now ≤ MOST_CHECK_BYTES }
-    ensures { IfOk result (λ a. AnswersCheck bytes.now a.accepted a.text) }
+    ensures { IfOk result (λ a. AnswersLog bytes.now a.accepted a.text) }
 {
     match judged(alloc, bytes) {
         Ok(judgement) => Ok(Answer {

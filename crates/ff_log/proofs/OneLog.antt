@@ -1,10 +1,8 @@
 -- Texts are the lines of one log, or have one first text that is no line.
-use Rattle.std.proofs.Common.{◌≡◌, ◌∙◌, ◌⊎◌, inl, inr, ◌<◌, ℕ, suc, zero, refl, ap, sym, arith, List, [], ◌∷◌, length, map, Option, Some, None}
+use Rattle.std.proofs.Common.{◌≡◌, ◌∙◌, ◌⊎◌, inl, inr, ◌<◌, ℕ, suc, zero, refl, ap, arith, List, [], ◌∷◌, map, Option, Some, None}
 use Rattle.std.specs.Prelude.{slice_index_or}
 use Rattle.std.proofs.lemmas.Bool.{cases_order}
-use Rattle.std.specs.List.{All}
 use Rattle.ff_log.specs.declared.logs.LogLine.{LogLine}
-use Rattle.ff_log.specs.Spelling.{IsLine, spelling}
 use Rattle.ff_log.specs.Reading.{line_of}
 use Rattle.ff_log.specs.Texts.{IsFirstBad, IsSpelled, SpellLines, TextsAreOne}
 use Rattle.ff_log.proofs.LogLaws.{AreRead, all_again, all_sound, none_bad, none_spells, same_lines, some_spells}
@@ -35,11 +33,14 @@ comes : (ts : Texts) → Comes ts
 comes [] = inl ([], refl)
 comes (t ∷ ts) = by (line_of t) refl (comes ts) where
   by : (o : Option LogLine) → line_of t ≡ o → Comes ts → Comes (t ∷ ts)
-  by None e h = inr (0, record {
-    within = omega arith;
-    bad = λ s. none_spells t e s;
-    before = λ k l. absurd (omega (arith, l));
-  })
+  by None e h = inr (
+    0,
+    record {
+      within = omega arith;
+      bad = λ s. none_spells t e s;
+      before = λ k l. absurd (omega (arith, l));
+    },
+  )
   by (Some l) e (inl (ls, r)) = inl (l ∷ ls, read) where
     read : AreRead (t ∷ ts) (l ∷ ls)
     read = cc

@@ -15,7 +15,7 @@ use Rattle.ff_solve.specs.Summaries.{IsSummary}
 use Rattle.ff_solve.proofs.OneReport.{summary_is_one}
 use Rattle.ff_make.specs.Laws.{AccordionIsOne, IsMade}
 use Rattle.ff_made.specs.Making.{IsMadeSolved, MakesProblem, MakesRefused}
-use Rattle.ff_made.specs.Answers.{AnswersMake, OneAnswer}
+use Rattle.ff_made.specs.Answers.{AnswersCount, OneAnswer}
 
 module _ (accordion_is_one : AccordionIsOne) where
   -- the refusal of an accordion is that of another
@@ -42,7 +42,7 @@ module _ (accordion_is_one : AccordionIsOne) where
     there : IsSummary count b.faces b.folded a.case budget l x
     there = subst (λ (d : Folded). IsSummary count b.faces d a.case budget l x) same.folded_are (subst (λ (fs : Faces). IsSummary count fs a.folded a.case budget l x) same.faces_are a.summary)
 
-  one_answers : (count budget : ℕ) (l m : Option Last) (x y : List ℕ) → AnswersMake count budget l x → AnswersMake count budget m y → (l ≡ m) × (x ≡ y)
+  one_answers : (count budget : ℕ) (l m : Option Last) (x y : List ℕ) → AnswersCount count budget l x → AnswersCount count budget m y → (l ≡ m) × (x ≡ y)
   one_answers count budget None None x y (q, a, f) (r, b, g) = (refl, f ∙ ap refusal_line (one_refusal count q r a b) ∙ sym g)
   one_answers count budget None (Some m) x y (q, a, f) b = absurd (not_refused count q b.faces b.folded b.case a b.makes)
   one_answers count budget (Some l) None x y a (r, b, g) = absurd (not_refused count r a.faces a.folded a.case b a.makes)

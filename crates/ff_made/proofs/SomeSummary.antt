@@ -13,9 +13,9 @@ use Rattle.ff_make.specs.Laws.{IsMade, SomeAccordion}
 use Rattle.ff_answers.proofs.Patterns.{patterns_come}
 use Rattle.ff_answers.proofs.Reports.{cases_have_reports}
 use Rattle.ff_made.specs.Making.{MakesProblem}
-use Rattle.ff_made.specs.Answers.{AnswersMake, SomeAnswer}
+use Rattle.ff_made.specs.Answers.{AnswersCount, SomeAnswer}
 
-module _ (count budget : ℕ) (none : (last : Option Last) (text : List ℕ) → AnswersMake count budget last text → ⊥) where
+module _ (count budget : ℕ) (none : (last : Option Last) (text : List ℕ) → AnswersCount count budget last text → ⊥) where
   of_report : (faces : Faces) (folded : Folded) (case : Case) → MakesProblem count faces folded case → (l : Last) (text : List ℕ) → IsReport faces folded case budget l text → ⊥
   of_report faces folded case makes l text (inl c) = none (Some last.Impossible) (summary_lines count faces folded case None 0 last.Impossible)
       (record { faces = faces; folded = folded; case = case; makes = makes; summary = inl (record { clashes = c.clashes; ends = refl; is = refl }) })

@@ -1,7 +1,7 @@
 //! The answer to `make`.
 ghost use Rattle.std.specs.Prelude.{◌≡◌, ◌<◌, ◌≤◌, IfOk, None};
 ghost use Rattle.ff_report.specs.Refusals.{refusal_line};
-ghost use Rattle.ff_made.specs.Answers.{AnswersMake};
+ghost use Rattle.ff_made.specs.Answers.{AnswersCount};
 
 use crate::making::{made_problem, made_summary};
 use ff_report::{Last, refusal_text};
@@ -30,7 +30,7 @@ fn refuse(alloc: Global, refusal: Refusal) -> Result<Answer, NoMemory>
 /// numbers are told. Nothing of a pattern that is refused is kept; too many constraints are seen before they are listed past the limit.
 pub fn answer_of(alloc: Global, count: u32, budget: u64) -> Result<Answer, NoMemory>
     requires { (0 < count) × (count ≤ 400) }
-    ensures { IfOk result (λ a. AnswersMake count budget a.last a.text) }
+    ensures { IfOk result (λ a. AnswersCount count budget a.last a.text) }
 {
     match made_problem(alloc, count) {
         Ok(problem) => {
