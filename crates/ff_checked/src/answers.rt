@@ -43,9 +43,7 @@ fn answered(alloc: Global, bytes: &[u8]) -> Result<Text, NoMemory> {
         return refusal_text(alloc, &Refusal::TooLong);
     }
     if let Some(line) = rewritten(alloc, bytes)? {
-        return Ok(Text::of(
-            format!(in alloc; "line {line} is written otherwise\n")?,
-        ));
+        return Ok(Text::of(format!(in alloc; "line {line} is written otherwise\n")?));
     }
     let answer = answer_of(alloc, bytes)?;
     Ok(answer.text)
