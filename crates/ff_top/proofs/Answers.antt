@@ -20,9 +20,12 @@ use Rattle.ff_report.proofs.AlikeTexts.{same_one}
 use Rattle.ff_solve.specs.Reports.{IsReport}
 use Rattle.ff_solve.proofs.OneReport.{one_report}
 use Rattle.ff_top.specs.Texts.{usage_line}
-use Rattle.ff_top.specs.Asking.{budget_in, AsksSolve}
+use Rattle.ff_words.specs.declared.jobs.Job.{Job}
+use Rattle.ff_words.specs.declared.jobs.Job.TheVariants.{Solve, Check, Bench, Make}
+use Rattle.ff_words.specs.Form.{job_named}
+use Rattle.ff_top.specs.Benching.{AnswersBench, IsRefusedBench}
 use Rattle.ff_top.specs.Solving.{ReadsProblem, ReadsRefused, IsRefused, IsSolved, AnswersSolve, status_of}
-use Rattle.ff_top.specs.Answer.{IsAnswer, AnswersTo, OneAnswer}
+use Rattle.ff_top.specs.Answer.{IsAnswer, IsAnswerOfRun, AnswersTo, AnswersUsage, NoBench, OneAnswer}
 use Rattle.ff_top.specs.declared.status.Status.{Status}
 use Rattle.ff_top.specs.declared.status.Status.TheVariants.{Done, Impossible, Refused, Unfinished, ReadFault, WriteFault, NoMemory, Usage}
 use Rattle.ff_top.proofs.SamePatterns.{problem_there, refused_there}
@@ -92,51 +95,75 @@ one_view budget input s t x y (inl (e, (q, a, f))) (inr (l, d, b)) = absurd (not
 one_view budget input s t x y (inr (l, d, b)) (inl (e, (q, a, f))) = absurd (not_refused input q b.faces b.folded b.case a b.reads)
 one_view budget input s t x y (inr (l, d, a)) (inr (m, e, b)) = let o = solved_once input budget l m x y a b in (d ∙ ap status_of o.0 ∙ sym e, o.1)
 
-usage_view : (input : List ℕ) (s : Status) (text : List ℕ) → AnswersTo None input s text → (s ≡ Usage) × (text ≡ usage_line)
-usage_view input Usage text h = (refl, h)
-usage_view input Done text h = absurd h
-usage_view input Impossible text h = absurd h
-usage_view input Refused text h = absurd h
-usage_view input Unfinished text h = absurd h
-usage_view input ReadFault text h = absurd h
-usage_view input WriteFault text h = absurd h
-usage_view input NoMemory text h = absurd h
+usage_view : (s : Status) (text : List ℕ) → AnswersUsage s text → (s ≡ Usage) × (text ≡ usage_line)
+usage_view Usage text h = (refl, h)
+usage_view Done text h = absurd h
+usage_view Impossible text h = absurd h
+usage_view Refused text h = absurd h
+usage_view Unfinished text h = absurd h
+usage_view ReadFault text h = absurd h
+usage_view WriteFault text h = absurd h
+usage_view NoMemory text h = absurd h
 
-one_to : (o : Option ℕ) (input : List ℕ) (s t : Status) (x y : List ℕ) → AnswersTo o input s x → AnswersTo o input t y → (s ≡ t) × AreOneText x y
-one_to None input s t x y a b = let u = usage_view input s x a in let v = usage_view input t y b in (u.0 ∙ sym v.0, same_one x y (u.1 ∙ sym v.1))
-one_to (Some budget) input s t x y a b = one_view budget input s t x y (view budget input s x a) (view budget input t y b)
+one_usage : (s t : Status) (x y : List ℕ) → AnswersUsage s x → AnswersUsage t y → (s ≡ t) × AreOneText x y
+one_usage s t x y a b = let u = usage_view s x a in let v = usage_view t y b in (u.0 ∙ sym v.0, same_one x y (u.1 ∙ sym v.1))
+
+one_to : (o : Option Job) (input : List ℕ) (s t : Status) (x y : List ℕ) → AnswersTo NoBench o input s x → AnswersTo NoBench o input t y → (s ≡ t) × AreOneText x y
+one_to None input s t x y a b = one_usage s t x y a b
+one_to (Some (Solve budget)) input s t x y a b = one_view budget input s t x y (view budget input s x a) (view budget input t y b)
+one_to (Some Check) input s t x y a b = one_usage s t x y a b
+one_to (Some (Bench budget workers)) input s t x y a b = one_usage s t x y a b
+one_to (Some (Make count budget)) input s t x y a b = one_usage s t x y a b
 
 pub one_answer : OneAnswer
-one_answer words input s t x y a b = one_to (budget_in words) input s t x y a b
+one_answer words input s t x y a b = one_to (job_named words) input s t x y a b
 
--- no answer is a fault
-no_fault : (o : Option ℕ) (input : List ℕ) (status : Status) (text : List ℕ) → AnswersTo o input status text → (status ≡ WriteFault) ⊎ (status ≡ ReadFault) → ⊥
-no_fault None input status text a (inl e) = subst (λ (s : Status). AnswersTo None input s text) e a
-no_fault None input status text a (inr e) = subst (λ (s : Status). AnswersTo None input s text) e a
-no_fault (Some budget) input status text a (inl e) = subst (λ (s : Status). AnswersTo (Some budget) input s text) e a
-no_fault (Some budget) input status text a (inr e) = subst (λ (s : Status). AnswersTo (Some budget) input s text) e a
+-- ---- no answer is a fault
 
-pub not_write_fault : (words : List (List ℕ)) (input : List ℕ) (status : Status) (text : List ℕ) → IsAnswer words input status text → status ≡ WriteFault → ⊥
-not_write_fault words input status text a e = no_fault (budget_in words) input status text a (inl e)
+-- what answers a workbench is no fault
+NoFault : (ℕ → List ℕ → Status → List ℕ → Type 0) → Type 0
+NoFault bench = (budget : ℕ) (input : List ℕ) (status : Status) (text : List ℕ) → bench budget input status text → (status ≡ WriteFault) ⊎ (status ≡ ReadFault) → ⊥
 
-pub not_read_fault : (words : List (List ℕ)) (input : List ℕ) (status : Status) (text : List ℕ) → IsAnswer words input status text → status ≡ ReadFault → ⊥
-not_read_fault words input status text a e = no_fault (budget_in words) input status text a (inr e)
+usage_no_fault : (status : Status) (text : List ℕ) → AnswersUsage status text → (status ≡ WriteFault) ⊎ (status ≡ ReadFault) → ⊥
+usage_no_fault status text a (inl e) = subst (λ (s : Status). AnswersUsage s text) e a
+usage_no_fault status text a (inr e) = subst (λ (s : Status). AnswersUsage s text) e a
 
--- ---- the answer by the words
+solve_no_fault : (budget : ℕ) (input : List ℕ) (status : Status) (text : List ℕ) → AnswersSolve budget input status text → (status ≡ WriteFault) ⊎ (status ≡ ReadFault) → ⊥
+solve_no_fault budget input status text a (inl e) = subst (λ (s : Status). AnswersSolve budget input s text) e a
+solve_no_fault budget input status text a (inr e) = subst (λ (s : Status). AnswersSolve budget input s text) e a
 
-pub usage_answer : (words : List (List ℕ)) (input : List ℕ) (o : Option ℕ) (text : List ℕ) → o ≡ budget_in words → o ≡ None → text ≡ usage_line → IsAnswer words input Usage text
-usage_answer words input o text e n t = subst (λ (b : Option ℕ). AnswersTo b input Usage text) (sym n ∙ e) t
+bench_no_fault : NoFault AnswersBench
+unfolding NoFault
+bench_no_fault budget input status text a (inl e) = subst (λ (s : Status). AnswersBench budget input s text) e a
+bench_no_fault budget input status text a (inr e) = subst (λ (s : Status). AnswersBench budget input s text) e a
 
-pub solve_answer : (words : List (List ℕ)) (input : List ℕ) (o : Option ℕ) (budget : ℕ) (s : Status) (text : List ℕ) → o ≡ budget_in words → o ≡ Some budget → AnswersSolve budget input s text → IsAnswer words input s text
-solve_answer words input o budget s text e n a = subst (λ (b : Option ℕ). AnswersTo b input s text) (sym n ∙ e) a
+no_bench_no_fault : NoFault NoBench
+unfolding NoFault
+no_bench_no_fault budget input status text a e = usage_no_fault status text a e
 
-pub long_answer : (words : List (List ℕ)) (input : List ℕ) (o : Option ℕ) (budget : ℕ) (s : Status) (text : List ℕ) → o ≡ budget_in words → o ≡ Some budget → MOST_BYTES < length input
-    → (s ≡ Refused) × (text ≡ refusal_line TooLong) → IsAnswer words input s text
-long_answer words input o budget s text e n l h = solve_answer words input o budget s text e n
-    (subst (λ (t : Status). AnswersSolve budget input t text) (sym h.0) (TooLong, inl (l, refl), h.1))
+no_fault : (bench : ℕ → List ℕ → Status → List ℕ → Type 0) → NoFault bench → (o : Option Job) (input : List ℕ) (status : Status) (text : List ℕ) → AnswersTo bench o input status text
+    → (status ≡ WriteFault) ⊎ (status ≡ ReadFault) → ⊥
+unfolding NoFault
+no_fault bench safe None input status text a e = usage_no_fault status text a e
+no_fault bench safe (Some (Solve budget)) input status text a e = solve_no_fault budget input status text a e
+no_fault bench safe (Some Check) input status text a e = usage_no_fault status text a e
+no_fault bench safe (Some (Bench budget workers)) input status text a e = safe budget input status text a e
+no_fault bench safe (Some (Make count budget)) input status text a e = usage_no_fault status text a e
 
--- words that ask for nothing don't ask for `solve`
-pub asks_none : {A : Type 0} (words : List (List ℕ)) (o : Option ℕ) → o ≡ budget_in words → o ≡ None → AsksSolve words → A
-asks_none {A} words o e n asks = apart (sym n ∙ e ∙ asks.1) where
-  apart : None ≡ Some asks.0 → A
-  apart q = cc
+-- a predicate of answers none of which is a fault
+pub record NeverFaults (answer : List ℕ → Status → List ℕ → Type 0) : Type 0 where
+  pub never : (input : List ℕ) (status : Status) (text : List ℕ) → answer input status text → (status ≡ WriteFault) ⊎ (status ≡ ReadFault) → ⊥
+
+pub alone_never_faults : (words : List (List ℕ)) → NeverFaults (IsAnswer words)
+alone_never_faults words = record { never = λ input status text a e. no_fault NoBench no_bench_no_fault (job_named words) input status text a e }
+
+pub run_never_faults : (words : List (List ℕ)) → NeverFaults (IsAnswerOfRun words)
+run_never_faults words = record { never = λ input status text a e. no_fault AnswersBench bench_no_fault (job_named words) input status text a e }
+
+-- ---- the answer by the job
+
+pub refused_solve : (budget : ℕ) (input : List ℕ) (s : Status) (text : List ℕ) → MOST_BYTES < length input → (s ≡ Refused) × (text ≡ refusal_line TooLong) → AnswersSolve budget input s text
+refused_solve budget input s text l h = subst (λ (t : Status). AnswersSolve budget input t text) (sym h.0) (TooLong, inl (l, refl), h.1)
+
+pub refused_bench : (budget : ℕ) (input : List ℕ) (s : Status) (text : List ℕ) (r : Refusal) → IsRefusedBench input r → (s ≡ Refused) × (text ≡ refusal_line r) → AnswersBench budget input s text
+refused_bench budget input s text r is h = subst (λ (t : Status). AnswersBench budget input t text) (sym h.0) (r, is, h.1)

@@ -6,3 +6,6 @@ mod Runs
 mod Reading
 mod Reported
 mod Totality
+mod Transcripts
+mod Benched
+mod Within

@@ -1,6 +1,6 @@
 -- One more piece read, and one more written.
 use Rattle.std.proofs.Common.{◌≡◌, ◌∙◌, ◌+◌, ◌≤◌, ℕ, length, arith, List, [], ◌++◌, take, drop, Option, None, Some, IfSome, refl, ap, sym, append_assoc, subst}
-use Rattle.std.proofs.lemmas.List.{take-append-drop, append-nil, drop_at, drop_all, take_all}
+use Rattle.std.proofs.lemmas.List.{append-nil, drop_at, drop_all, take_all}
 use Rattle.std.proofs.Math.Seq.{take-add, drop-nil}
 use Rattle.ff_outside.specs.Streams.{Gives}
 use Rattle.ff_top.specs.Transfer.{Tells, IsReadOff, Got, GotFront, GotPart}

@@ -1,5 +1,5 @@
 -- What is read of bytes, and why they are refused.
-use Rattle.std.proofs.Common.{◌≡◌, inl, inr, ℕ, ◌≤◌, Bool, true, false, List, length, Option, Some, None, Result, Ok, Err, IfOk, IfErr, MatchResult, if◌then◌else◌, nat_le, codes, option_and_then, refl, subst, arith}
+use Rattle.std.proofs.Common.{◌≡◌, inr, ℕ, ◌≤◌, Bool, true, false, List, length, Option, Some, None, Result, Ok, Err, IfOk, IfErr, MatchResult, if◌then◌else◌, nat_le, codes, option_and_then, refl, subst, arith}
 use Rattle.std.proofs.lemmas.Bool.{leb-true}
 use Rattle.serde_json.specs.Find.{get}
 use Rattle.ff_types.specs.declared.limits.TheConstants.{MOST_BYTES}

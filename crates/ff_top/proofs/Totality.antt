@@ -1,5 +1,5 @@
 -- No words and no input are without an answer.
-use Rattle.std.proofs.Common.{◌<◌, ◌≤◌, ◌⊎◌, inl, inr, ℕ, List, length, Option, Some, None, refl, arith}
+use Rattle.std.proofs.Common.{◌<◌, ◌≤◌, ◌⊎◌, inl, inr, ℕ, List, length, Option, Some, None, refl}
 use Rattle.std.proofs.lemmas.Bool.{cases_lt}
 use Rattle.ff_types.specs.declared.limits.TheConstants.{MOST_BYTES}
 use Rattle.ff_types.specs.declared.patterns.Pattern.{Pattern}
@@ -17,13 +17,15 @@ use Rattle.ff_read.specs.Read.{IsReadAs}
 use Rattle.ff_read.proofs.OneReading.{reading_is_one}
 use Rattle.ff_report.specs.Refusals.{refusal_line}
 use Rattle.ff_top.specs.Texts.{usage_line}
-use Rattle.ff_top.specs.Asking.{budget_in}
+use Rattle.ff_words.specs.declared.jobs.Job.{Job}
+use Rattle.ff_words.specs.declared.jobs.Job.TheVariants.{Solve, Check, Bench, Make}
+use Rattle.ff_words.specs.Form.{job_named}
 use Rattle.ff_report.specs.declared.lines.Last.{Last}
 use Rattle.ff_report.specs.declared.lines.Last.TheVariants as last
 use Rattle.ff_answers.proofs.Coming.{folded_patterns_come}
 use Rattle.ff_answers.proofs.Reports.{cases_have_reports}
-use Rattle.ff_top.specs.Solving.{IsRefused, IsSolved}
-use Rattle.ff_top.specs.Answer.{AnswersTo, SomeAnswer}
+use Rattle.ff_top.specs.Solving.{IsRefused, IsSolved, AnswersSolve}
+use Rattle.ff_top.specs.Answer.{AnswersTo, NoBench, SomeAnswer}
 use Rattle.ff_top.specs.declared.status.Status.{Status}
 use Rattle.ff_top.specs.declared.status.Status.TheVariants.{Done, Impossible, Unfinished, Refused, Usage}
 use Rattle.ff_top.proofs.Reported.{solved}
@@ -44,7 +46,7 @@ module _ (input : List ℕ) (within : length input ≤ MOST_BYTES) (refused : (r
   of_bytes = reading_is_one.some input pattern (λ r h. refused r (inr (within, inl h)))
 
 -- a pattern that folds is refused, or its report solves the input
-module _ (input : List ℕ) (budget : ℕ) (none : (s : Status) (text : List ℕ) → AnswersTo (Some budget) input s text → ⊥) where
+module _ (input : List ℕ) (budget : ℕ) (none : (s : Status) (text : List ℕ) → AnswersSolve budget input s text → ⊥) where
   refused : (r : Refusal) → IsRefused input r → ⊥
   refused r h = none Refused (refusal_line r) (r, h, refl)
 
@@ -63,9 +65,12 @@ module _ (input : List ℕ) (budget : ℕ) (none : (s : Status) (text : List ℕ
   of_length (inl l) = refused TooLong (inl (l, refl))
   of_length (inr l) = of_bytes input l refused (folds l)
 
-by_budget : (o : Option ℕ) (input : List ℕ) → ((s : Status) (text : List ℕ) → AnswersTo o input s text → ⊥) → ⊥
-by_budget None input none = none Usage usage_line refl
-by_budget (Some budget) input none = of_length input budget none (cases_lt MOST_BYTES (length input))
+by_job : (o : Option Job) (input : List ℕ) → ((s : Status) (text : List ℕ) → AnswersTo NoBench o input s text → ⊥) → ⊥
+by_job None input none = none Usage usage_line refl
+by_job (Some (Solve budget)) input none = of_length input budget none (cases_lt MOST_BYTES (length input))
+by_job (Some Check) input none = none Usage usage_line refl
+by_job (Some (Bench budget workers)) input none = none Usage usage_line refl
+by_job (Some (Make count budget)) input none = none Usage usage_line refl
 
 pub some_answer : SomeAnswer
-some_answer words input none = by_budget (budget_in words) input none
+some_answer words input none = by_job (job_named words) input none

@@ -1,22 +1,40 @@
 -- What the program answers and writes. This project's own.
 use Rattle.std.specs.Prelude.{ℕ, ◌≡◌, ◌⊎◌, IfSome, List, [], Option, Some, None}
+use Rattle.ff_words.specs.declared.jobs.Job.{Job}
+use Rattle.ff_words.specs.declared.jobs.Job.TheVariants.{Solve, Check, Bench, Make}
+use Rattle.ff_words.specs.Form.{job_named}
 use Rattle.ff_report.specs.Alike.{AreOneText}
 use Rattle.ff_top.specs.Texts.{usage_line}
-use Rattle.ff_top.specs.Asking.{budget_in}
 use Rattle.ff_top.specs.Solving.{AnswersSolve}
+use Rattle.ff_top.specs.Benching.{AnswersBench}
 use Rattle.ff_top.specs.Transfer.{Tells, Got, GotFront, GotPart}
 use Rattle.ff_top.specs.declared.status.Status.{Status}
 use Rattle.ff_top.specs.declared.status.Status.TheVariants.{ReadFault, WriteFault, NoMemory, Usage}
 
--- the words ask for nothing that is done, or for `solve` within a budget
-abbrev pub AnswersTo : Option ℕ → List ℕ → Status → List ℕ → Type 0
-AnswersTo None input Usage text = text ≡ usage_line
-AnswersTo None input status text = ⊥
-AnswersTo (Some budget) input status text = AnswersSolve budget input status text
+-- words that nothing is done for
+abbrev pub AnswersUsage : Status → List ℕ → Type 0
+AnswersUsage Usage text = text ≡ usage_line
+AnswersUsage status text = ⊥
 
--- The status and a text for these words and this input.
+-- The status and a text for a job, or for no job, and an input. What answers a job of a workbench within a budget is given.
+abbrev pub AnswersTo : (ℕ → List ℕ → Status → List ℕ → Type 0) → Option Job → List ℕ → Status → List ℕ → Type 0
+AnswersTo bench None input status text = AnswersUsage status text
+AnswersTo bench (Some (Solve budget)) input status text = AnswersSolve budget input status text
+AnswersTo bench (Some Check) input status text = AnswersUsage status text
+AnswersTo bench (Some (Bench budget workers)) input status text = bench budget input status text
+AnswersTo bench (Some (Make count budget)) input status text = AnswersUsage status text
+
+-- a workbench that isn't run
+abbrev pub NoBench : ℕ → List ℕ → Status → List ℕ → Type 0
+NoBench budget input status text = AnswersUsage status text
+
+-- The status and a text of `run_alone` for these words and this input.
 abbrev pub IsAnswer : List (List ℕ) → List ℕ → Status → List ℕ → Type 0
-IsAnswer words input status text = AnswersTo (budget_in words) input status text
+IsAnswer words input status text = AnswersTo NoBench (job_named words) input status text
+
+-- The status and a text of `run`.
+abbrev pub IsAnswerOfRun : List (List ℕ) → List ℕ → Status → List ℕ → Type 0
+IsAnswerOfRun words input status text = AnswersTo AnswersBench (job_named words) input status text
 
 -- Two answers to the words and an input have one status, and their texts are alike but for logs, and the same where no log stands in them.
 abbrev pub OneAnswer : Type 0
@@ -40,26 +58,26 @@ IsSettled WriteFault = ⊥
 IsSettled NoMemory = ⊥
 IsSettled status = Unit {0}
 
--- an answer to the words and the input, of whose text this much is written
-pub record HasWritten (words : List (List ℕ)) (input : List ℕ) (written : List ℕ → Type 0) : Type 0 where
+-- an answer to the input, of whose text this much is written
+pub record HasWritten (answer : List ℕ → Status → List ℕ → Type 0) (input : List ℕ) (written : List ℕ → Type 0) : Type 0 where
   pub status : Status
   pub text : List ℕ
-  pub answer : IsAnswer words input status text
+  pub answers : answer input status text
   pub is_written : written text
 
--- One run: its words, what the source told before it, what the sink told before and after, and its status.
-pub record IsRun (words : List (List ℕ)) (left before after : Option (List ℕ)) (status : Status) : Type 0 where
+-- One run: what an answer to an input is, what the source told before it, what the sink told before and after, and its status.
+pub record IsRun (answer : List ℕ → Status → List ℕ → Type 0) (left before after : Option (List ℕ)) (status : Status) : Type 0 where
   -- the bytes that the source gives: those that it tells, where it does
   pub input : List ℕ
   pub told : Tells left input
   -- each status but a fault and want of memory is that of an answer, whose text is written whole
-  pub settled : IsSettled status → (text : List ℕ) × IsAnswer words input status text × Got before text after
+  pub settled : IsSettled status → (text : List ℕ) × answer input status text × Got before text after
   -- at a write fault a part of the text of an answer is written, and not all of it
-  pub cut : status ≡ WriteFault → HasWritten words input (λ text. GotPart before text after)
+  pub cut : status ≡ WriteFault → HasWritten answer input (λ text. GotPart before text after)
   -- whatever the status, nothing is written, or a front of the text of an answer
-  pub front : Got before [] after ⊎ HasWritten words input (λ text. GotFront before text after)
+  pub front : Got before [] after ⊎ HasWritten answer input (λ text. GotFront before text after)
 
 -- Where no fault was counted, the run ends with an answer, whose text is written, unless memory was refused.
-abbrev pub IsComplete : List (List ℕ) → Option (List ℕ) → Option (List ℕ) → Option (List ℕ) → Type 0 → Status → Type 0
-IsComplete words left before after no_fault status = IfSome left (λ input. no_fault
-    → (status ≡ NoMemory) ⊎ ((text : List ℕ) × IsAnswer words input status text × Got before text after))
+abbrev pub IsComplete : (List ℕ → Status → List ℕ → Type 0) → Option (List ℕ) → Option (List ℕ) → Option (List ℕ) → Type 0 → Status → Type 0
+IsComplete answer left before after no_fault status = IfSome left (λ input. no_fault
+    → (status ≡ NoMemory) ⊎ ((text : List ℕ) × answer input status text × Got before text after))

@@ -3,5 +3,7 @@ pub mod Texts
 pub mod Transfer
 pub mod Asking
 pub mod Solving
+pub mod Benching
 pub mod Writings
+pub mod Endings
 pub mod Answer

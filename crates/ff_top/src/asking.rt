@@ -1,27 +1,30 @@
 //! What the words ask for.
-ghost use Rattle.std.specs.Prelude.{◌≡◌, IfOk, map, string_bytes};
-ghost use Rattle.ff_top.specs.Asking.{budget_in, solve_budget};
+ghost use Rattle.std.specs.Prelude.{◌≡◌, ◌≤◌, IfOk, IfSome, map, string_bytes};
+ghost use Rattle.ff_words.specs.Form.{job_named};
+ghost use Rattle.ff_top.specs.Asking.{bench_budget};
 
 use ff_tables::NoMemory;
 use ff_words::{Job, WordsNo, read_words};
 use std::alloc::Global;
 
-fn budget_of(job: Job) -> Option<u64>
-    ensures { result ≡ solve_budget job }
+// The job that the words name, and None where they name none.
+pub(crate) fn job_of(alloc: Global, words: &[String]) -> Result<Option<Job>, NoMemory>
+    ensures job { IfOk result (λ job. job ≡ job_named (map string_bytes words.now)) }
+    ensures within { IfOk result (λ job. IfSome (bench_budget job) (λ budget. budget ≤ 1000000000)) }
 {
-    match job {
-        Job::Solve { budget } => Some(budget),
-        Job::Check | Job::Bench { .. } | Job::Make { .. } => None,
+    match read_words(alloc, words) {
+        Ok(job) => Ok(Some(job)),
+        Err(WordsNo::Usage) => Ok(None),
+        Err(WordsNo::NoMemory) => Err(NoMemory),
     }
 }
 
-// The budget of turns of the words `solve`, and None for all other words.
-pub(crate) fn solve_words(alloc: Global, words: &[String]) -> Result<Option<u64>, NoMemory>
-    ensures { IfOk result (λ budget. budget ≡ budget_in (map string_bytes words.now)) }
+// The budget of a job of a workbench, and None for all else.
+pub(crate) fn bench_turns(job: Option<Job>) -> Option<u64>
+    ensures { result ≡ bench_budget job }
 {
-    match read_words(alloc, words) {
-        Ok(job) => Ok(budget_of(job)),
-        Err(WordsNo::Usage) => Ok(None),
-        Err(WordsNo::NoMemory) => Err(NoMemory),
+    match job? {
+        Job::Bench { budget, .. } => Some(budget),
+        Job::Solve { .. } | Job::Check | Job::Make { .. } => None,
     }
 }

@@ -2,6 +2,8 @@
 #![tactic(auto)]
 
 mod asking;
+mod benching;
+mod outcome;
 mod solving;
 pub mod status;
 pub mod texts;

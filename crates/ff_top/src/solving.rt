@@ -2,36 +2,20 @@
 ghost use Rattle.std.specs.Prelude.{◌≡◌, ◌≤◌, IfOk, IfErr, MatchResult, length};
 ghost use Rattle.ff_types.specs.declared.limits.TheConstants.{MOST_BYTES as most_bytes};
 ghost use Rattle.ff_read.specs.Read.{IsReadAs};
-ghost use Rattle.ff_report.specs.Refusals.{refusal_line};
 ghost use Rattle.ff_solve.specs.Written.{report_text};
 ghost use Rattle.ff_top.specs.Solving.{WhyNoReport, ReadsProblem, IsSolved, AnswersSolve, status_of};
 ghost use Rattle.ff_top.specs.Writings.{text_of};
 
+use crate::outcome::{Outcome, refuse};
 use crate::status::Status;
 use crate::writing::Writing;
 use ff_problem::{Problem, problem};
 use ff_read::read_fold;
-use ff_report::{Last, refusal_text};
+use ff_report::Last;
 use ff_solve::{Report, report_of};
 use ff_tables::NoMemory;
-use ff_types::{No, Pattern, Refusal};
+use ff_types::{No, Pattern};
 use std::alloc::Global;
-
-// What is to be written, and the status then.
-#[derive(Drop)]
-pub(crate) struct Outcome {
-    pub(crate) status: Status,
-    pub(crate) writing: Writing,
-}
-
-pub(crate) fn refuse(alloc: Global, refusal: Refusal) -> Result<Outcome, NoMemory>
-    ensures { IfOk result (λ o. (o.status ≡ Status.Refused) × (text_of o.writing ≡ refusal_line refusal)) }
-{
-    Ok(Outcome {
-        status: Status::Refused,
-        writing: Writing::Line(refusal_text(alloc, &refusal)?),
-    })
-}
 
 // How a report ends, as a status.
 fn status_at(last: Last) -> Status

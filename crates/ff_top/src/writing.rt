@@ -1,21 +1,25 @@
 //! What a run writes, piece by piece.
-ghost use Rattle.std.specs.Prelude.{◌≡◌, ◌<◌, ◌≤◌, IfOk, IsErrOf, OnOk, OnErr};
+ghost use Rattle.std.specs.Prelude.{◌≡◌, suc, ◌<◌, ◌≤◌, IfOk, IsErrOf, OnOk, OnErr, length, slice_get};
 ghost use Rattle.ff_outside.specs.Streams.{Rose};
 ghost use Rattle.ff_top.specs.Transfer.{Got, GotFront, GotPart};
-ghost use Rattle.ff_top.specs.Writings.{piece_count, piece_of, text_of};
+ghost use Rattle.ff_top.specs.Writings.{lines_at, piece_count, piece_of, text_of};
 
 use crate::transfer::write_all;
+use ff_core::Core;
+use ff_journal::Entry;
 use ff_outside::Sink;
 use ff_solve::Report;
 use ff_tables::{NoMemory, Text};
+use ff_transcript::{end_text, entry_text};
 use std::alloc::Global;
 use thiserror::Error;
 
-// One line, or a report.
+// One line, a report, or the transcript of a workbench's journal.
 #[derive(Drop)]
 pub(crate) enum Writing {
     Line(Text),
     Report(Report),
+    Transcript(Core),
 }
 
 /// Why a text wasn't written whole.
@@ -38,12 +42,29 @@ impl From<NoMemory> for WriteNo {
     }
 }
 
+fn transcript_pieces(core: &Core) -> usize
+    ensures { result ≡ suc (length core.now.journal) }
+{
+    core.journal().as_slice().len() + 1
+}
+
+// The lines of an entry, or the last line behind all of them.
+fn transcript_piece(alloc: Global, journal: &[Entry], n: usize) -> Result<Text, NoMemory>
+    ensures { IfOk result (λ text. text ≡ lines_at (slice_get journal.now n)) }
+{
+    match journal.get(n) {
+        Some(entry) => entry_text(alloc, entry),
+        None => end_text(alloc),
+    }
+}
+
 fn pieces(writing: &Writing) -> usize
     ensures { result ≡ piece_count writing.now }
 {
     match writing {
         Writing::Line(_) => 1,
         Writing::Report(report) => report.pieces(),
+        Writing::Transcript(core) => transcript_pieces(core),
     }
 }
 
@@ -54,6 +75,7 @@ fn piece(alloc: Global, writing: &Writing, n: usize) -> Result<Text, NoMemory>
     match writing {
         Writing::Line(text) => text.copy(alloc),
         Writing::Report(report) => report.piece(alloc, n),
+        Writing::Transcript(core) => transcript_piece(alloc, core.journal().as_slice(), n),
     }
 }
 

@@ -3,9 +3,9 @@ ghost use Rattle.std.specs.Prelude.{◌≤◌};
 
 use crate::rows::{Kind, Row};
 use crate::stages::stages;
-use ff_outside::{MemSink, MemSource, SteadySource};
+use ff_outside::{MemSink, MemSource, NoGate, SteadySource};
 use ff_top::status::Status;
-use ff_top::top::run_alone;
+use ff_top::top;
 use std::alloc::{AllocError, Global};
 
 // The room for an answer.
@@ -40,14 +40,14 @@ fn slowly(alloc: Global, words: &[String], input: &str) -> Result<String, AllocE
     let bytes = Vec::from_slice(alloc, input.as_bytes())?;
     let mut source = MemSource::new(bytes, 7, Vec::new(alloc));
     let mut sink = sink_of(alloc, ROOM, 10, Vec::new(alloc))?;
-    let status = run_alone(alloc, words, &mut source, &mut sink);
+    let status = top::run(alloc, words, &mut source, &mut sink, &NoGate);
     answer_text(alloc, status, sink.bytes())
 }
 
 fn steadily(alloc: Global, words: &[String], bytes: Vec<u8>) -> Result<String, AllocError> {
     let mut source = SteadySource::new(bytes);
     let mut sink = sink_of(alloc, ROOM, ROOM, Vec::new(alloc))?;
-    let status = run_alone(alloc, words, &mut source, &mut sink);
+    let status = top::run(alloc, words, &mut source, &mut sink, &NoGate);
     answer_text(alloc, status, sink.bytes())
 }
 
@@ -89,7 +89,7 @@ fn read_fault(alloc: Global, words: &[String], input: &str) -> Result<String, Al
     let bytes = Vec::from_slice(alloc, input.as_bytes())?;
     let mut source = MemSource::new(bytes, 7, Vec::from_slice(alloc, &[0u64])?);
     let mut sink = sink_of(alloc, ROOM, 10, Vec::new(alloc))?;
-    let status = run_alone(alloc, words, &mut source, &mut sink);
+    let status = top::run(alloc, words, &mut source, &mut sink, &NoGate);
     answer_text(alloc, status, sink.bytes())
 }
 
@@ -102,7 +102,7 @@ fn write_fault(
 ) -> Result<String, AllocError> {
     let mut source = SteadySource::new(Vec::from_slice(alloc, input.as_bytes())?);
     let mut sink = sink_of(alloc, room, 10, Vec::from_slice(alloc, &[failing])?)?;
-    let status = run_alone(alloc, words, &mut source, &mut sink);
+    let status = top::run(alloc, words, &mut source, &mut sink, &NoGate);
     answer_text(alloc, status, sink.bytes())
 }
 

@@ -1,9 +1,9 @@
 //! Flat-folded states of origami crease patterns, from standard input to standard output.
 #![tactic(auto)]
 
-use ff_outside::{StdSink, StdSource};
+use ff_outside::{NoGate, StdSink, StdSource};
 use ff_top::status::Status;
-use ff_top::top::run_alone;
+use ff_top::top::run;
 use std::alloc::{AllocError, Global};
 use std::env::{self, Args};
 use std::io::{self, ErrorKind};
@@ -23,11 +23,12 @@ fn main(rt: HostRuntime) -> ExitCode {
         Err(_) => Err(AllocError),
     };
     let status = match words {
-        Ok(words) => run_alone(
+        Ok(words) => run(
             alloc,
             words.as_slice(),
             &mut StdSource::new(rt.reader()),
             &mut StdSink::new(io::writer(&rt)),
+            &NoGate,
         ),
         Err(_) => Status::NoMemory,
     };

@@ -1,0 +1,7 @@
+use Rattle.std.proofs.Common.{◌≤◌, map, string_bytes, IfSome, subst}
+use Rattle.ff_top.specs.Asking.{bench_budget}
+use Rattle.ff_top.proofs.Within.{turns_within}
+use Rattle.ff_top.proofs.asking.job_of.Goals as goal
+
+pub returns-in-Ok-clause-within : goal.returns-in-Ok-clause-within
+returns-in-Ok-clause-within c = subst (λ o. IfSome (bench_budget o) (λ n. n ≤ 1000000000)) c.in-Ok.ensures (turns_within (map string_bytes c.args.words.now))
