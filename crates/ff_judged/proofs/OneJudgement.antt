@@ -24,7 +24,7 @@ use Rattle.ff_judged.specs.declared.judging.Judgement.TheVariants.{BadLine, Chec
 use Rattle.ff_judged.specs.Sheets.{RefusesSheet}
 use Rattle.ff_judged.specs.Judgements.{IsJudged, IsRefused, JudgesLog, RefusesRead, accepts}
 use Rattle.ff_judged.specs.Lines.{judgement_line}
-use Rattle.ff_judged.specs.Answers.{AnswersLog, OneAnswer}
+use Rattle.ff_judged.specs.Answers.{AnswersLog, OneJudgement}
 
 -- a refusal of the sheet is one of the pattern
 whole_refusal : (p : Pattern) (r : Refusal) → RefusesSheet p r → RefusesProblem p r
@@ -100,5 +100,5 @@ module _ (reads : CheckIsOne) (texts : TextsAreOne) (verdicts : VerdictsAreOne) 
   one_answers bytes a b x y (inr (j, judged, e, f)) (inr (k, judged2, d, g)) =
       let same = one_judgement bytes j k judged judged2 in (e ∙ ap accepts same ∙ sym d, f ∙ ap judgement_line same ∙ sym g)
 
-  pub one_answer : OneAnswer
+  pub one_answer : OneJudgement
   one_answer bytes a b x y p q = one_answers bytes a b x y p q

@@ -22,7 +22,7 @@ use Rattle.ff_judged.specs.declared.judging.Judgement.{Judgement}
 use Rattle.ff_judged.specs.declared.judging.Judgement.TheVariants.{BadLine, Checked}
 use Rattle.ff_judged.specs.Judgements.{IsJudged, IsRefused, JudgesLog, accepts}
 use Rattle.ff_judged.specs.Lines.{judgement_line}
-use Rattle.ff_judged.specs.Answers.{AnswersLog, SomeAnswer}
+use Rattle.ff_judged.specs.Answers.{AnswersLog, SomeJudgement}
 use Rattle.ff_judged.proofs.Refuting.{is_judged}
 
 -- a log is judged
@@ -53,5 +53,5 @@ module _ (reads : CheckIsOne) (texts : TextsAreOne) (verdicts : EachLogHasVerdic
   of_length (inl l) = refused TooLong (inl (l, refl))
   of_length (inr l) = of_bytes l
 
-pub some_answer : CheckIsOne → TextsAreOne → EachLogHasVerdict → OfEachFolded AcceptedLogsRefute → SomeAnswer
+pub some_answer : CheckIsOne → TextsAreOne → EachLogHasVerdict → OfEachFolded AcceptedLogsRefute → SomeJudgement
 some_answer reads texts verdicts law bytes none = of_length reads texts verdicts law bytes none (cases_lt MOST_CHECK_BYTES (length bytes))

@@ -19,9 +19,9 @@ abbrev pub AnswersLog : List ℕ → Bool → List ℕ → Type 0
 AnswersLog bytes accepted text = AnswersRefused bytes accepted text ⊎ AnswersJudged bytes accepted text
 
 -- two answers to the same bytes are the same
-abbrev pub OneAnswer : Type 0
-OneAnswer = (bytes : List ℕ) (a b : Bool) (x y : List ℕ) → AnswersLog bytes a x → AnswersLog bytes b y → (a ≡ b) × (x ≡ y)
+abbrev pub OneJudgement : Type 0
+OneJudgement = (bytes : List ℕ) (a b : Bool) (x y : List ℕ) → AnswersLog bytes a x → AnswersLog bytes b y → (a ≡ b) × (x ≡ y)
 
 -- It can't be that bytes have no answer. It is said by what can't be, since no definition decides which it is.
-abbrev pub SomeAnswer : Type 0
-SomeAnswer = (bytes : List ℕ) → ((accepted : Bool) (text : List ℕ) → AnswersLog bytes accepted text → ⊥) → ⊥
+abbrev pub SomeJudgement : Type 0
+SomeJudgement = (bytes : List ℕ) → ((accepted : Bool) (text : List ℕ) → AnswersLog bytes accepted text → ⊥) → ⊥

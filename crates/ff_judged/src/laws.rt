@@ -1,13 +1,13 @@
 //! Laws of the answers to `check`.
-ghost use Rattle.ff_judged.specs.Answers.{OneAnswer, SomeAnswer};
+ghost use Rattle.ff_judged.specs.Answers.{OneJudgement, SomeJudgement};
 
 use ff_checker::{accepted_logs_refute, one_verdict, some_verdict};
 use ff_log::texts_are_one;
 use ff_read::check_is_one;
 
 /// Two answers to the same bytes are the same: the log is accepted in both or in none, and the line is one.
-pub fn one_answer()
-    ensures { OneAnswer }
+pub fn one_judgement()
+    ensures { OneJudgement }
 {
     check_is_one();
     texts_are_one();
@@ -15,8 +15,8 @@ pub fn one_answer()
 }
 
 /// It can't be that bytes have no answer.
-pub fn some_answer()
-    ensures { SomeAnswer }
+pub fn some_judgement()
+    ensures { SomeJudgement }
 {
     check_is_one();
     texts_are_one();

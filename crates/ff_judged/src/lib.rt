@@ -9,5 +9,5 @@ mod texts;
 
 pub use answers::{Answer, answer_of};
 pub use judging::{Judgement, MOST_CHECK_BYTES, judged};
-pub use laws::{one_answer, some_answer};
+pub use laws::{one_judgement, some_judgement};
 pub use texts::{bad_line_text, check_text};

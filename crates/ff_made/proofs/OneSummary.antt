@@ -15,7 +15,7 @@ use Rattle.ff_solve.specs.Summaries.{IsSummary}
 use Rattle.ff_solve.proofs.OneReport.{summary_is_one}
 use Rattle.ff_make.specs.Laws.{AccordionIsOne, IsMade}
 use Rattle.ff_made.specs.Making.{IsMadeSolved, MakesProblem, MakesRefused}
-use Rattle.ff_made.specs.Answers.{AnswersCount, OneAnswer}
+use Rattle.ff_made.specs.Answers.{AnswersCount, OneSummary}
 
 module _ (accordion_is_one : AccordionIsOne) where
   -- the refusal of an accordion is that of another
@@ -48,5 +48,5 @@ module _ (accordion_is_one : AccordionIsOne) where
   one_answers count budget (Some l) None x y a (r, b, g) = absurd (not_refused count r a.faces a.folded a.case b a.makes)
   one_answers count budget (Some l) (Some m) x y a b = let o = solved_once count budget l m x y a b in (ap Some o.0, o.1)
 
-  pub one_answer : OneAnswer
+  pub one_answer : OneSummary
   one_answer count budget l m x y a b = one_answers count budget l m x y a b

@@ -13,7 +13,7 @@ use Rattle.ff_make.specs.Laws.{IsMade, SomeAccordion}
 use Rattle.ff_answers.proofs.Patterns.{patterns_come}
 use Rattle.ff_answers.proofs.Reports.{cases_have_reports}
 use Rattle.ff_made.specs.Making.{MakesProblem}
-use Rattle.ff_made.specs.Answers.{AnswersCount, SomeAnswer}
+use Rattle.ff_made.specs.Answers.{AnswersCount, SomeSummary}
 
 module _ (count budget : ℕ) (none : (last : Option Last) (text : List ℕ) → AnswersCount count budget last text → ⊥) where
   of_report : (faces : Faces) (folded : Folded) (case : Case) → MakesProblem count faces folded case → (l : Last) (text : List ℕ) → IsReport faces folded case budget l text → ⊥
@@ -27,5 +27,5 @@ module _ (count budget : ℕ) (none : (last : Option Last) (text : List ℕ) →
       (λ faces folded case problem. cases_have_reports faces folded case budget problem.case_is.sorted_pairs
       (of_report faces folded case (record { pattern = p; made = is; problem = problem })))
 
-pub some_answer : SomeAccordion → SomeAnswer
+pub some_answer : SomeAccordion → SomeSummary
 some_answer accordions count budget some few none = of_accordion count budget none (accordions count some few)

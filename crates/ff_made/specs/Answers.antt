@@ -11,9 +11,9 @@ AnswersCount count budget None text = (r : Refusal) × MakesRefused count r × (
 AnswersCount count budget (Some last) text = IsMadeSolved count budget last text
 
 -- two answers to the same count and budget are the same
-abbrev pub OneAnswer : Type 0
-OneAnswer = (count budget : ℕ) (l m : Option Last) (x y : List ℕ) → AnswersCount count budget l x → AnswersCount count budget m y → (l ≡ m) × (x ≡ y)
+abbrev pub OneSummary : Type 0
+OneSummary = (count budget : ℕ) (l m : Option Last) (x y : List ℕ) → AnswersCount count budget l x → AnswersCount count budget m y → (l ≡ m) × (x ≡ y)
 
 -- It can't be that a count has no answer. It is said by what can't be, since no definition decides which it is.
-abbrev pub SomeAnswer : Type 0
-SomeAnswer = (count budget : ℕ) → 0 < count → count ≤ 400 → ((last : Option Last) (text : List ℕ) → AnswersCount count budget last text → ⊥) → ⊥
+abbrev pub SomeSummary : Type 0
+SomeSummary = (count budget : ℕ) → 0 < count → count ≤ 400 → ((last : Option Last) (text : List ℕ) → AnswersCount count budget last text → ⊥) → ⊥

@@ -6,4 +6,4 @@ mod laws;
 mod making;
 
 pub use answers::{Answer, answer_of};
-pub use laws::{one_answer, some_answer};
+pub use laws::{one_summary, some_summary};
