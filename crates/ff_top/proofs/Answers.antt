@@ -28,7 +28,10 @@ use Rattle.ff_top.specs.Solving.{ReadsProblem, ReadsRefused, IsRefused, IsSolved
 use Rattle.ff_top.specs.Answer.{IsAnswer, IsAnswerOfRun, AnswersTo, AnswersUsage, NoBench, OneAnswer}
 use Rattle.ff_top.specs.declared.status.Status.{Status}
 use Rattle.ff_top.specs.declared.status.Status.TheVariants.{Done, Impossible, Refused, Unfinished, ReadFault, WriteFault, NoMemory, Usage}
-use Rattle.ff_top.proofs.SamePatterns.{problem_there, refused_there}
+use Rattle.ff_problem.proofs.SamePatterns.{problem_there, refused_there}
+use Rattle.ff_judged.specs.Answers.{OneJudgement}
+use Rattle.ff_made.specs.Answers.{OneSummary}
+use Rattle.ff_top.proofs.Modes.{check_no_fault, make_no_fault, one_check, one_make}
 
 -- ---- refusals
 
@@ -108,15 +111,16 @@ usage_view NoMemory text h = absurd h
 one_usage : (s t : Status) (x y : List ℕ) → AnswersUsage s x → AnswersUsage t y → (s ≡ t) × AreOneText x y
 one_usage s t x y a b = let u = usage_view s x a in let v = usage_view t y b in (u.0 ∙ sym v.0, same_one x y (u.1 ∙ sym v.1))
 
-one_to : (o : Option Job) (input : List ℕ) (s t : Status) (x y : List ℕ) → AnswersTo NoBench o input s x → AnswersTo NoBench o input t y → (s ≡ t) × AreOneText x y
-one_to None input s t x y a b = one_usage s t x y a b
-one_to (Some (Solve budget)) input s t x y a b = one_view budget input s t x y (view budget input s x a) (view budget input t y b)
-one_to (Some Check) input s t x y a b = one_usage s t x y a b
-one_to (Some (Bench budget workers)) input s t x y a b = one_usage s t x y a b
-one_to (Some (Make count budget)) input s t x y a b = one_usage s t x y a b
+module _ (one_log : OneJudgement) (one_count : OneSummary) where
+  one_to : (o : Option Job) (input : List ℕ) (s t : Status) (x y : List ℕ) → AnswersTo NoBench o input s x → AnswersTo NoBench o input t y → (s ≡ t) × AreOneText x y
+  one_to None input s t x y a b = one_usage s t x y a b
+  one_to (Some (Solve budget)) input s t x y a b = one_view budget input s t x y (view budget input s x a) (view budget input t y b)
+  one_to (Some Check) input s t x y a b = one_check one_log input s t x y a b
+  one_to (Some (Bench budget workers)) input s t x y a b = one_usage s t x y a b
+  one_to (Some (Make count budget)) input s t x y a b = one_make one_count count budget s t x y a b
 
-pub one_answer : OneAnswer
-one_answer words input s t x y a b = one_to (job_named words) input s t x y a b
+  pub one_answer : OneAnswer
+  one_answer words input s t x y a b = one_to (job_named words) input s t x y a b
 
 -- ---- no answer is a fault
 
@@ -146,9 +150,9 @@ no_fault : (bench : ℕ → List ℕ → Status → List ℕ → Type 0) → NoF
 unfolding NoFault
 no_fault bench safe None input status text a e = usage_no_fault status text a e
 no_fault bench safe (Some (Solve budget)) input status text a e = solve_no_fault budget input status text a e
-no_fault bench safe (Some Check) input status text a e = usage_no_fault status text a e
+no_fault bench safe (Some Check) input status text a e = check_no_fault input status text a e
 no_fault bench safe (Some (Bench budget workers)) input status text a e = safe budget input status text a e
-no_fault bench safe (Some (Make count budget)) input status text a e = usage_no_fault status text a e
+no_fault bench safe (Some (Make count budget)) input status text a e = make_no_fault count budget status text a e
 
 -- a predicate of answers none of which is a fault
 pub record NeverFaults (answer : List ℕ → Status → List ℕ → Type 0) : Type 0 where

@@ -1,6 +1,7 @@
 mod Pieces
 mod Wrote
-mod SamePatterns
+mod Modes
+mod Counting
 mod Answers
 mod Runs
 mod Reading

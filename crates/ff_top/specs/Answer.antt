@@ -6,6 +6,8 @@ use Rattle.ff_words.specs.Form.{job_named}
 use Rattle.ff_report.specs.Alike.{AreOneText}
 use Rattle.ff_top.specs.Texts.{usage_line}
 use Rattle.ff_top.specs.Solving.{AnswersSolve}
+use Rattle.ff_top.specs.Checking.{AnswersCheck}
+use Rattle.ff_top.specs.Making.{AnswersMake}
 use Rattle.ff_top.specs.Benching.{AnswersBench}
 use Rattle.ff_top.specs.Transfer.{Tells, Got, GotFront, GotPart}
 use Rattle.ff_top.specs.declared.status.Status.{Status}
@@ -20,9 +22,9 @@ AnswersUsage status text = ⊥
 abbrev pub AnswersTo : (ℕ → List ℕ → Status → List ℕ → Type 0) → Option Job → List ℕ → Status → List ℕ → Type 0
 AnswersTo bench None input status text = AnswersUsage status text
 AnswersTo bench (Some (Solve budget)) input status text = AnswersSolve budget input status text
-AnswersTo bench (Some Check) input status text = AnswersUsage status text
+AnswersTo bench (Some Check) input status text = AnswersCheck input status text
 AnswersTo bench (Some (Bench budget workers)) input status text = bench budget input status text
-AnswersTo bench (Some (Make count budget)) input status text = AnswersUsage status text
+AnswersTo bench (Some (Make count budget)) input status text = AnswersMake count budget status text
 
 -- a workbench that isn't run
 abbrev pub NoBench : ℕ → List ℕ → Status → List ℕ → Type 0

@@ -1,6 +1,7 @@
 -- What the words ask for: the job that they name, and how much input is read for it. This project's own.
 use Rattle.std.specs.Prelude.{ℕ, List, Option, None, Some}
 use Rattle.ff_types.specs.declared.limits.TheConstants.{MOST_BYTES}
+use Rattle.ff_judged.specs.declared.judging.TheConstants.{MOST_CHECK_BYTES}
 use Rattle.ff_words.specs.declared.jobs.Job.{Job}
 use Rattle.ff_words.specs.declared.jobs.Job.TheVariants.{Solve, Check, Bench, Make}
 use Rattle.ff_words.specs.Form.{job_named}
@@ -17,7 +18,7 @@ bench_budget (Some (Make count budget)) = None
 abbrev pub most_read : Option ℕ → Option Job → Option ℕ
 most_read bench None = None
 most_read bench (Some (Solve budget)) = Some MOST_BYTES
-most_read bench (Some Check) = None
+most_read bench (Some Check) = Some MOST_CHECK_BYTES
 most_read bench (Some (Bench budget workers)) = bench
 most_read bench (Some (Make count budget)) = None
 

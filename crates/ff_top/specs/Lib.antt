@@ -3,6 +3,9 @@ pub mod Texts
 pub mod Transfer
 pub mod Asking
 pub mod Solving
+pub mod Checking
+pub mod Making
+pub mod Counts
 pub mod Benching
 pub mod Writings
 pub mod Endings

@@ -2,6 +2,7 @@
 ghost use Rattle.std.specs.Prelude.{◌≡◌, ◌≤◌, IfOk, IfSome, map, string_bytes};
 ghost use Rattle.ff_words.specs.Form.{job_named};
 ghost use Rattle.ff_top.specs.Asking.{bench_budget};
+ghost use Rattle.ff_top.specs.Counts.{HasCount};
 
 use ff_tables::NoMemory;
 use ff_words::{Job, WordsNo, read_words};
@@ -10,6 +11,7 @@ use std::alloc::Global;
 // The job that the words name, and None where they name none.
 pub(crate) fn job_of(alloc: Global, words: &[String]) -> Result<Option<Job>, NoMemory>
     ensures job { IfOk result (λ job. job ≡ job_named (map string_bytes words.now)) }
+    ensures counted { IfOk result HasCount }
     ensures within { IfOk result (λ job. IfSome (bench_budget job) (λ budget. budget ≤ 1000000000)) }
 {
     match read_words(alloc, words) {

@@ -3,6 +3,8 @@
 
 mod asking;
 mod benching;
+mod checking;
+mod making;
 mod outcome;
 mod solving;
 pub mod status;

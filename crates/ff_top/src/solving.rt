@@ -18,7 +18,7 @@ use ff_types::{No, Pattern};
 use std::alloc::Global;
 
 // How a report ends, as a status.
-fn status_at(last: Last) -> Status
+pub(crate) fn status_at(last: Last) -> Status
     ensures { result ≡ status_of last }
 {
     match last {

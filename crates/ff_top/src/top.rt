@@ -5,6 +5,8 @@ ghost use Rattle.ff_outside.specs.Streams.{Rose};
 ghost use Rattle.ff_top.specs.Transfer.{Tells, IsReadOff};
 ghost use Rattle.ff_top.specs.Asking.{limit, limit_alone, most_read};
 ghost use Rattle.ff_top.specs.Solving.{AnswersSolve};
+ghost use Rattle.ff_top.specs.Checking.{AnswersCheck};
+ghost use Rattle.ff_top.specs.Counts.{HasCount};
 ghost use Rattle.ff_top.specs.Benching.{AnswersBench};
 ghost use Rattle.ff_top.specs.Writings.{text_of};
 ghost use Rattle.ff_top.specs.Endings.{Ends};
@@ -12,11 +14,15 @@ ghost use Rattle.ff_top.specs.Answer.{AnswersTo, NoBench, IsAnswer, IsAnswerOfRu
 
 use crate::asking::{bench_turns, job_of};
 use crate::benching::bench;
+use crate::checking::check;
+use crate::making::make;
 use crate::outcome::{Outcome, refuse, usage};
 use crate::solving::solve;
 use crate::status::Status;
 use crate::transfer::{Input, ReadNo, read_all};
 use crate::writing::{WriteNo, write_pieces};
+use ff_judged::{MOST_CHECK_BYTES, one_judgement, some_judgement};
+use ff_made::{one_summary, some_summary};
 use ff_outside::{Gate, Sink, Source};
 use ff_types::{MOST_BYTES, Refusal};
 use ff_words::Job;
@@ -31,6 +37,19 @@ fn prepare_solve<S: Source>(alloc: Global, budget: u64, source: &mut S) -> Resul
 {
     match read_all(alloc, source, MOST_BYTES)? {
         Input::Whole(bytes) => Ok(solve(alloc, &bytes, budget)?),
+        Input::Beyond => Ok(refuse(alloc, Refusal::TooLong)?),
+    }
+}
+
+// The answer to `check` and what the source gives.
+fn prepare_check<S: Source>(alloc: Global, source: &mut S) -> Result<Outcome, ReadNo>
+    ensures answer { IfOk result (λ o. (input : List ℕ) × Tells (S.left source.old) input × AnswersCheck input o.status (text_of o.writing)) }
+    ensures read_off { OnOk result (IsReadOff MOST_CHECK_BYTES (S.left source.old) (S.left source.new)) }
+    ensures cause { IsErrOf result ReadNo.Failed → Rose (S.faults source.old) (S.faults source.new) (S.at_last source.new) }
+    ensures later { S.faults source.old ≤ S.faults source.new }
+{
+    match read_all(alloc, source, MOST_CHECK_BYTES)? {
+        Input::Whole(bytes) => Ok(check(alloc, &bytes)?),
         Input::Beyond => Ok(refuse(alloc, Refusal::TooLong)?),
     }
 }
@@ -60,6 +79,7 @@ fn prepare_job<S: Source>(
     job: Option<Job>,
     source: &mut S,
 ) -> Result<Outcome, ReadNo>
+    requires { HasCount job }
     ensures answer { IfOk result (λ o. (input : List ℕ) × Tells (S.left source.old) input × AnswersTo NoBench job input o.status (text_of o.writing)) }
     ensures unread { most_read None job ≡ None → source.new ≡ source.old }
     ensures read_off { OnOk result (IfSome (most_read None job) (λ most. IsReadOff most (S.left source.old) (S.left source.new))) }
@@ -71,9 +91,9 @@ fn prepare_job<S: Source>(
     };
     match named {
         Job::Solve { budget } => prepare_solve(alloc, budget, source),
-        Job::Check => Ok(usage(alloc)?),
+        Job::Check => prepare_check(alloc, source),
         Job::Bench { .. } => Ok(usage(alloc)?),
-        Job::Make { .. } => Ok(usage(alloc)?),
+        Job::Make { count, budget } => Ok(make(alloc, count, budget)?),
     }
 }
 
@@ -213,9 +233,15 @@ pub fn run<S: Source, K: Sink, G: Gate + Sync>(
 /// stands in them. So each status of `run_alone` comes exactly where its row of `IsAnswer` holds.
 pub fn one_answer()
     ensures { OneAnswer }
-{}
+{
+    one_judgement();
+    one_summary();
+}
 
 /// A law: no words and no input are without an answer.
 pub fn some_answer()
     ensures { SomeAnswer }
-{}
+{
+    some_judgement();
+    some_summary();
+}
