@@ -1,5 +1,5 @@
 -- What is found before an offer.
-use Rattle.std.proofs.Common.{◌≡◌, ℕ, List, Option, None, slice_index_or}
+use Rattle.std.proofs.Common.{ℕ, List, Option, None, slice_index_or}
 use Rattle.ff_tables.specs.declared.orders.Order.{Order}
 use Rattle.ff_tables.specs.declared.terms.Constraint.{Constraint}
 use Rattle.ff_tables.specs.Forces.{Forces, Knows}

@@ -2,7 +2,6 @@
 use Rattle.std.proofs.Common.{◌≡◌, ℕ, zero, suc, ◌+◌, ◌<◌, List, [], ◌∷◌, ◌++◌, length, replicate, slice_get, sym, refl, ap, ◌∙◌, subst, arith, Option, Some, None, length-append}
 use lib.ListN.{length-replicate}
 use Rattle.ff_tables.specs.declared.terms.Constraint.{Constraint}
-use Rattle.ff_tables.specs.declared.orders.Order.{Order}
 use Rattle.ff_propagate.specs.declared.facts.Fact.{Fact}
 use Rattle.ff_propagate.specs.Facts.{fact_at}
 use Rattle.ff_propagate.specs.FactRule.{MeetsFactRule}

@@ -83,3 +83,14 @@ pub fn marked<R: Threads + Wait + Sync>(
     let Marks { list } = door.close(all);
     Ok(list)
 }
+
+/// How often each of the numbers below `seats` is among the marks, and how many there are.
+pub fn counted(alloc: Global, marks: &[u32], seats: u32) -> Result<String, NoMemory> {
+    let mut text = String::new(alloc);
+    for seat in 0..seats {
+        let own = marks.iter().filter(|&&number| number == seat).count();
+        text.push_str(format!(in alloc; "{own} ")?.as_str())?;
+    }
+    text.push_str(format!(in alloc; "of {}", marks.len())?.as_str())?;
+    Ok(text)
+}

@@ -2,6 +2,7 @@
 //! plane geometry, sources and sinks of std's, jobs, boards and a door on threads.
 #![tactic(auto)]
 
+mod accordions;
 mod boards;
 mod doors;
 mod events;
@@ -22,10 +23,11 @@ mod tests;
 #[cfg(test)]
 mod words;
 
+pub use accordions::accordion;
 pub use boards::{carried, opened, pins, reopened, shown, swept};
-pub use doors::{Marks, marked};
+pub use doors::{Marks, counted, marked};
 pub use events::Event;
 pub use hands::{Signals, closed_by_two, stolen};
-pub use offers::offered;
+pub use offers::{offered, offers_told};
 pub use strips::strip;
 pub use systems::{Shape, Turns, case, tried};

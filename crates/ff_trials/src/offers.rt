@@ -6,9 +6,11 @@ ghost use Rattle.ff_board.specs.Facts.{vars_in, cons_in};
 ghost use Rattle.ff_board.specs.Views.{IsAt, GoesOn};
 ghost use Rattle.ff_trials.specs.Offered.{IsSeenBelow, AreSeenBelow, AreWithin};
 
+use crate::boards::{opened, reopened, swept};
 use ff_board::{BoardSeat, EpochBoard, Offer};
 use ff_propagate::{Fact, Reason};
-use ff_tables::{Constraint, Forced, Known, NoMemory, Order, forced};
+use ff_tables::{Constraint, Forced, Given, Items, Known, NoMemory, Order, forced};
+use ff_types::Case;
 use std::alloc::Global;
 
 /// Values by variable.
@@ -131,4 +133,103 @@ pub fn offered(
         reason: Reason::Forced(index),
     };
     Ok(Some(board.offer(seat, var, fact)))
+}
+
+// How an offer of a value below ended.
+fn offer_told(
+    alloc: Global,
+    board: &EpochBoard,
+    seat: &mut BoardSeat,
+    var: u32,
+    index: u32,
+) -> Result<&'static str, NoMemory>
+    requires { IsAt board.now seat.old }
+    ensures { GoesOn seat.old seat.new }
+{
+    match offered(alloc, board, seat, var, Order::Below, index)? {
+        None => Ok("none"),
+        Some(Offer::Set) => Ok("set"),
+        Some(Offer::Same(_)) => Ok("same"),
+        Some(Offer::Other(_)) => Ok("other"),
+    }
+}
+
+// What is found of the first three variables.
+fn found_told(alloc: Global, board: &EpochBoard, seat: &mut BoardSeat) -> Result<String, NoMemory>
+    requires { IsAt board.now seat.old }
+    ensures { GoesOn seat.old seat.new }
+{
+    let mut text = String::new(alloc);
+    for var in 0..board.vars() {
+        text.push(match board.value(seat, var) {
+            None => '.',
+            Some(fact) => { if fact.value == Order::Below { '-' } else { '+' } }
+        })?;
+    }
+    Ok(text)
+}
+
+// The value, as a number, and the level that a second seat finds at the variable 1.
+fn other_told(alloc: Global, board: &EpochBoard, seat: &mut BoardSeat) -> Result<String, NoMemory>
+    requires { IsAt board.now seat.old }
+    ensures { seat.new ≡ seat.old }
+{
+    let mut other = board.split(seat);
+    if board.vars() < 2 {
+        return Ok(String::new(alloc));
+    }
+    match board.value(&mut other, 1) {
+        None => Ok(String::from_str(alloc, "none")?),
+        Some(fact) => {
+            let below = u32::from(fact.value == Order::Below);
+            Ok(format!(in alloc; "{below} level {}", fact.level)?)
+        }
+    }
+}
+
+// Offers the value below of the variable 1 by the constraint 0 twice, and what is found then.
+fn first_board(alloc: Global, board: &EpochBoard, seat: &mut BoardSeat) -> Result<String, NoMemory>
+    requires { IsAt board.now seat.old }
+    ensures { GoesOn seat.old seat.new }
+{
+    let begun = found_told(alloc, board, seat)?;
+    let first = offer_told(alloc, board, seat, 1, 0)?;
+    let again = offer_told(alloc, board, seat, 1, 0)?;
+    let other = other_told(alloc, board, seat)?;
+    let end = swept(alloc, board, seat)?;
+    Ok(format!(in alloc;
+        "{} {first} {again} {} {}",
+        begun.as_str(),
+        other.as_str(),
+        end.as_str()
+    )?)
+}
+
+// The same offer once, and what is found then.
+fn second_board(alloc: Global, board: &EpochBoard, seat: &mut BoardSeat) -> Result<String, NoMemory>
+    requires { IsAt board.now seat.old }
+    ensures { GoesOn seat.old seat.new }
+{
+    let first = offer_told(alloc, board, seat, 1, 0)?;
+    let other = other_told(alloc, board, seat)?;
+    let end = swept(alloc, board, seat)?;
+    Ok(format!(in alloc; "{first} {} {}", other.as_str(), end.as_str())?)
+}
+
+/// Offers the value below of the variable 1 by the constraint 0, on a board of these givens, and then on one of more.
+pub fn offers_told(
+    alloc: Global,
+    case: Case,
+    givens: &Items<Given>,
+    more: &Items<Given>,
+) -> Result<String, NoMemory> {
+    let Some((board, mut seat)) = opened(alloc, case, givens)? else {
+        return Ok(String::new(alloc));
+    };
+    let first = first_board(alloc, &board, &mut seat)?;
+    let Some((next, mut seat)) = reopened(alloc, &board, more)? else {
+        return Ok(String::new(alloc));
+    };
+    let second = second_board(alloc, &next, &mut seat)?;
+    Ok(format!(in alloc; "{}; {}", first.as_str(), second.as_str())?)
 }

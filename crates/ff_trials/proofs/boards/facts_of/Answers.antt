@@ -1,4 +1,4 @@
-use Rattle.std.proofs.Common.{◌≡◌, [], subst}
+use Rattle.std.proofs.Common.{[], subst}
 use Rattle.ff_carry.specs.declared.carrying.Opened.{Opened}
 use Rattle.ff_carry.specs.Ends.{CarriesTo}
 use Rattle.ff_trials.proofs.Started.{none_meet}

@@ -1,5 +1,4 @@
-use Rattle.std.proofs.Common.{◌≡◌, ◌<◌, ◌∙◌, sym, subst, ℕ}
-use Rattle.ff_steal.specs.declared.crews.Hand.{Hand}
+use Rattle.std.proofs.Common.{◌<◌, ◌∙◌, sym, subst, ℕ}
 use Rattle.ff_trials.proofs.Started.{two_of}
 use Rattle.ff_trials.proofs.hands.two_hands.Goals as goal
 

@@ -1,4 +1,4 @@
-use Rattle.std.proofs.Common.{rules, ◌≡◌, true}
+use Rattle.std.proofs.Common.{rules}
 use Rattle.ff_trials.proofs.BeforeOffers.{forced_seen}
 use Rattle.ff_trials.proofs.offers.offered.Goals as goal
 
