@@ -1,2 +1,0 @@
-mod Started
-mod BeforeOffers
