@@ -2,3 +2,4 @@ pub mod Refuted
 pub mod Kept
 pub mod Choosing
 pub mod Filled
+pub mod Asked

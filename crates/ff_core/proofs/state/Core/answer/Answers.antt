@@ -1,7 +1,7 @@
 use Rattle.std.proofs.Common.{◌∙◌, refl, ap}
 use Rattle.ff_viewer.specs.declared.commands.Command.TheVariants.{Ask}
 use Rattle.ff_viewer.specs.declared.commands.Question.TheVariants.{Page, Stack}
-use Rattle.ff_core.proofs.Heard.{asked_said, asked_names}
+use Rattle.ff_told.proofs.Asked.{asked_said, asked_names}
 use Rattle.ff_core.proofs.state.Core.answer.Goals as goal
 
 pub returns-in_ok-told-in-Page-clause-said : goal.returns-in_ok-told-in-Page-clause-said

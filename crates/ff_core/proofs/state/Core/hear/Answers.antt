@@ -1,5 +1,6 @@
 use Rattle.ff_core.proofs.AfterSaying.{published_begun}
-use Rattle.ff_core.proofs.Heard.{some_published, last_published, said_on, names_on, says_on}
+use Rattle.ff_told.proofs.Asked.{some_published, last_published}
+use Rattle.ff_core.proofs.Heard.{said_on, names_on, says_on}
 use Rattle.ff_core.proofs.state.Core.hear.Goals as goal
 
 pub told-requires-clause-published : goal.told-requires-clause-published

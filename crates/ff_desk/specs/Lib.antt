@@ -1,0 +1,11 @@
+pub mod Views
+pub mod Demands
+pub mod Desks
+pub mod Steps
+pub mod Loans
+pub mod Opened
+pub mod Laws
+pub mod Ends
+pub mod Prepared
+pub mod Marks
+pub mod Searched
