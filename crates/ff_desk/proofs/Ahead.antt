@@ -85,7 +85,7 @@ went_further cons a b tree is unfinished same ran = elim (cases_lt (visited_of a
           let less : length a.part.vars * (visited_of b + 1) ≤ length a.part.vars * (visited_of a + 1) = mul-le-mul_left (length a.part.vars) (omega (arith, l)) in
           let next : length a.part.vars * (visited_of a + 1) ≡ length a.part.vars * visited_of a + length a.part.vars = one_more (length a.part.vars) (visited_of a) in
           let there : min (length a.part.vars * visited_of a + max 4096 (length a.part.vars)) a.budget < length a.part.vars * (visited_of b + 1) =
-              subst (λ n. min (length a.part.vars * visited_of a + max 4096 (length a.part.vars)) a.budget < n * (visited_of b + 1)) cost s in
+          subst (λ n. min (length a.part.vars * visited_of a + max 4096 (length a.part.vars)) a.budget < n * (visited_of b + 1)) cost s in
           omega (arith, less, next, there, covered)
     ]
       where

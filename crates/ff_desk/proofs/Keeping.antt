@@ -69,11 +69,11 @@ within_said : (lengths : List ℕ) (j : List Entry) (v index : ℕ) (said : Comm
 within_said lengths j v index said told old room w =
     let x : Entry = entry.Said v index said told in
     let more : length (commands_of w (j ++ x ∷ [])) ≡ length (commands_of w j) + length (commands_of w (x ∷ [])) =
-        ap (λ t. length t) (filter_map-append (command_by w) j (x ∷ [])) ∙ length-append (commands_of w j) (commands_of w (x ∷ [])) in
+    ap (λ t. length t) (filter_map-append (command_by w) j (x ∷ [])) ∙ length-append (commands_of w j) (commands_of w (x ∷ [])) in
     let o = old w in
     dite (ℕ_discrete v w)
-        (λ e. let c = count_same w v index said told [] e in let r = subst (λ u. length (commands_of u j) < get_or lengths u 0) e room in omega (arith, more, c, r))
-        (λ n. let c = count_other w v index said told [] n in omega (arith, more, c, o))
+    (λ e. let c = count_same w v index said told [] e in let r = subst (λ u. length (commands_of u j) < get_or lengths u 0) e room in omega (arith, more, c, r))
+    (λ n. let c = count_other w v index said told [] n in omega (arith, more, c, o))
 
 present_said : (case : Case) (j : List Entry) (x : Entry) (fs : List (Option Fact)) (present : Option HomeView)
     → published (j ++ x ∷ []) ≡ published j → HasPresent case j fs present → HasPresent case (j ++ x ∷ []) fs present
@@ -156,7 +156,7 @@ within_published : (lengths : List ℕ) (j : List Entry) (e : ℕ) (o : Outcome)
 within_published lengths j e o old w =
     let x : Entry = entry.Published e o in
     let more : length (commands_of w (j ++ x ∷ [])) ≡ length (commands_of w j) + length (commands_of w (x ∷ [])) =
-        ap (λ t. length t) (filter_map-append (command_by w) j (x ∷ [])) ∙ length-append (commands_of w j) (commands_of w (x ∷ [])) in
+    ap (λ t. length t) (filter_map-append (command_by w) j (x ∷ [])) ∙ length-append (commands_of w j) (commands_of w (x ∷ [])) in
     let l = old w in omega (arith, more, l)
 
 contradict_more : (case : Case) (j : List Entry) (o : Outcome) (first : ℕ) → published j ≤ last_begun j

@@ -121,14 +121,14 @@ entered_demands j viewer index said told None old new laid were marked = nobody_
 entered_demands j viewer index said told (Some ps) old new laid (long, were) marked = (
   marked.long ∙ long,
   λ p l.
-  let here : p < length old = omega (arith, l, long) in (
-    λ m. elim ((marked.each p here).0 m) [
-      | inl d ↦ demanded_here j viewer index said told p d
-      | inr d ↦ demanded_before j viewer index said told p ((were p l).0 d)
-    ],
-    λ d. (marked.each p here).1 (elim (demanded_said j viewer index said told p d) [
-      | inl m ↦ inl m
-      | inr m ↦ inr ((were p l).1 m)
-    ]),
-  ),
+      let here : p < length old = omega (arith, l, long) in (
+        λ m. elim ((marked.each p here).0 m) [
+          | inl d ↦ demanded_here j viewer index said told p d
+          | inr d ↦ demanded_before j viewer index said told p ((were p l).0 d)
+        ],
+        λ d. (marked.each p here).1 (elim (demanded_said j viewer index said told p d) [
+          | inl m ↦ inl m
+          | inr m ↦ inr ((were p l).1 m)
+        ]),
+      ),
 )

@@ -138,15 +138,15 @@ pub found_publishes : (d : DeskView) (board : BoardView) (seat : SeatView) (gs :
 found_publishes d board seat gs fs o home is sorted opening f hb hs =
     let its : gs ≡ givens_of d.base.case d.journal (published d.journal) = f.givens ∙ opening.its in
     found_keeps d o gs fs home is opening.begun
-        (end_is_outcome d.base.case d.journal (published d.journal) gs o sorted its (subst (λ c. IsEndOf c gs o) opening.case_is f.end))
-        f.shown its f.agree
-        (subst (λ (c : Case). MeetsFactRule c.system.vars c.system.constraints gs fs) opening.case_is f.rule)
-        (ap (λ (b : BoardView). arc_value b.opening.case) hb ∙ opening.case_is, ap (λ (b : BoardView). b.opening.givens) hb ∙ sym f.givens)
-        (λ v l. f.seen v (subst (λ (c : Case). v < c.system.vars) (sym opening.case_is) l) ∙ ap (λ (s : SeatView). fact_seen s.view v) (sym hs))
-        (let vars = is.few.vars in
-        let same = ap (λ (c : Case). c.system.vars) opening.case_is in
-        let low = opening.low in
-        top_le fs ((published d.journal + 1) * 2 ^ 18) (λ v h at. let l = f.low v h at in omega (arith, l, low, same, vars)))
+    (end_is_outcome d.base.case d.journal (published d.journal) gs o sorted its (subst (λ c. IsEndOf c gs o) opening.case_is f.end))
+    f.shown its f.agree
+    (subst (λ (c : Case). MeetsFactRule c.system.vars c.system.constraints gs fs) opening.case_is f.rule)
+    (ap (λ (b : BoardView). arc_value b.opening.case) hb ∙ opening.case_is, ap (λ (b : BoardView). b.opening.givens) hb ∙ sym f.givens)
+    (λ v l. f.seen v (subst (λ (c : Case). v < c.system.vars) (sym opening.case_is) l) ∙ ap (λ (s : SeatView). fact_seen s.view v) (sym hs))
+    (let vars = is.few.vars in
+    let same = ap (λ (c : Case). c.system.vars) opening.case_is in
+    let low = opening.low in
+    top_le fs ((published d.journal + 1) * 2 ^ 18) (λ v h at. let l = f.low v h at in omega (arith, l, low, same, vars)))
 
 -- ---- what fits
 

@@ -38,12 +38,7 @@ fn forget(outcome: Option<Outcome>) {
 
 impl Desk {
     // A desk with an empty journal and no board.
-    fn blank(
-        alloc: Global,
-        case: Case,
-        lengths: Items<u32>,
-        budget: u64,
-    ) -> Result<Desk, NoMemory>
+    fn blank(alloc: Global, case: Case, lengths: Items<u32>, budget: u64) -> Result<Desk, NoMemory>
         requires few { IsFew record { case = case; budget = budget; lengths = lengths } }
         ensures base { IfOk result (λ d. d.base ≡ record { case = case; budget = budget; lengths = lengths }) }
         ensures blank { IfOk result (λ d. IsBlank d) }

@@ -31,7 +31,13 @@ impl Desk {
         ensures same { IsSameButPages self.old self.new }
         ensures laid { OnOk result (IsLaid self.new.pages) }
     {
-        let list = all_pages(alloc, self.base.case(), &self.journal, self.base.budget(), &self.facts)?;
+        let list = all_pages(
+            alloc,
+            self.base.case(),
+            &self.journal,
+            self.base.budget(),
+            &self.facts,
+        )?;
         let marks = vec![in alloc; false; list.len()]?;
         self.pages = Some(Laid::of(list));
         self.demanded = marks;
@@ -125,7 +131,14 @@ impl Desk {
         ensures said { IfOk result (λ told. IsSaid self.now.base.case self.now.base.budget self.now.journal viewer (length (commands_of viewer self.now.journal)) command.now told) }
         ensures names { IfOk result (λ told. NamesFit self.now.base.case (Some self.now.facts) (Said viewer (length (commands_of viewer self.now.journal)) command.now told)) }
     {
-        let told = reply(alloc, self.base.case(), &self.journal, &self.facts, viewer, command)?;
+        let told = reply(
+            alloc,
+            self.base.case(),
+            &self.journal,
+            &self.facts,
+            viewer,
+            command,
+        )?;
         Ok(told)
     }
 

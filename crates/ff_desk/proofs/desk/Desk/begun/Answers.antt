@@ -4,10 +4,12 @@ use Rattle.ff_desk.proofs.Counts.{few}
 use Rattle.ff_desk.proofs.desk.Desk.begun.Goals as goal
 
 pub begun-requires : goal.begun-requires
-begun-requires c = record { few =
-    let n = (few c.self.inside.base.lengths c.self.inside.journal c.self.invariant.within c.self.invariant.order).2 in
-    let t = c.self.invariant.few.commands in
-    let e = ap (λ j. length j) c.as_slice.ensures in omega (arith, n, t, e) }
+begun-requires c = record {
+  few =
+      let n = (few c.self.inside.base.lengths c.self.inside.journal c.self.invariant.within c.self.invariant.order).2 in
+      let t = c.self.invariant.few.commands in
+      let e = ap (λ j. length j) c.as_slice.ensures in omega (arith, n, t, e);
+}
 
 pub returns-clause-few : goal.returns-clause-few
 returns-clause-few c =

@@ -17,5 +17,7 @@ returns-then-not-shows_board-clause-answers c =
 pub lay-requires : goal.lay-requires
 lay-requires c =
     let j : c.as_slice.result.now ≡ c.args.self.now.journal = c.as_slice.ensures ∙ ap (λ (d : DeskView). d.journal) c.self.view_is in
-    record { board = board_last c.args.self.now.journal c.requires.published
-        (ap (λ (x : List Entry). shows_board (last_of (outcomes x))) (sym j) ∙ sym c.shows_board.ensures ∙ c.if-not-shows_board.false) }
+    record {
+      board = board_last c.args.self.now.journal c.requires.published
+          (ap (λ (x : List Entry). shows_board (last_of (outcomes x))) (sym j) ∙ sym c.shows_board.ensures ∙ c.if-not-shows_board.false);
+    }

@@ -20,7 +20,7 @@ many c =
     let sorted = subst (λ (x : Case). AreSorted x.pairs) c.case-case.ensures c.count.ensures.pairs.sorted in
     let l = few_givens _ c.args.epoch c.self.invariant sorted in
     let e : length c.in_ok-givens.givens ≡ length (givens_of c.self.inside.base.case c.self.inside.journal c.args.epoch) =
-        ap (λ (gs : List Given). length gs) (c.in_ok-givens.ensures ∙ ap (λ (x : Case). givens_of x c.self.inside.journal c.args.epoch) c.case-case.ensures) in
+    ap (λ (gs : List Given). length gs) (c.in_ok-givens.ensures ∙ ap (λ (x : Case). givens_of x c.self.inside.journal c.args.epoch) c.case-case.ensures) in
     omega (arith, l, e)
 
 pub carry-requires-clause-rule : goal.carry-requires-clause-rule

@@ -18,7 +18,7 @@ invariant_of-self-2 c =
     let back = sym c.self.view_is in
     let number : f.epoch ≡ published j = ap (λ (x : FoundView). x.epoch) c.found.view_is ∙ c.requires.epoch ∙ ap (λ (d : DeskView). published d.journal) back in
     let opening : IsOpeningOf b.case j f.epoch (arc_value f.board).opening = subst (λ (x : FoundView). IsOpeningOf b.case j x.epoch x.opening) (sym c.found.view_is)
-        (subst (λ (d : DeskView). IsOpeningOf d.base.case d.journal c.args.found.epoch c.args.found.opening) back c.requires.opening) in
+    (subst (λ (d : DeskView). IsOpeningOf d.base.case d.journal c.args.found.epoch c.args.found.opening) back c.requires.opening) in
     let sorted = subst (λ (x : Case). AreSorted x.pairs) c.case.ensures c.count.ensures.pairs.sorted in
     let more : c.push.new.self ≡ j ++ entry.Published (published j) f.outcome ∷ [] = c.in_ok-push.ensures.pushed ∙ ap (λ n. j ++ entry.Published n f.outcome ∷ []) number in
     subst (λ (x : List Entry). IsDesk record { base = b; journal = x; givens = f.givens; facts = f.facts; home = Some c.of.result; present = None; pages = None; demanded = c.self.inside.demanded.items }) (sym more)

@@ -6,9 +6,11 @@ pub loop-n-init : goal.loop-n-init
 loop-n-init c = published_first c.args.self.now
 
 pub publish_next-requires : goal.publish_next-requires
-publish_next-requires c = record { begun =
-    let i = c.loop-n.invariant in let k = i.counted in let b = i.begun in let t = c.loop-n-test.true in let o = c.is_desk.ensures.order in
-    let p = c.published.ensures.value in let q = c.begun.ensures.value in omega (arith, k, b, t, o, p, q) }
+publish_next-requires c = record {
+  begun =
+      let i = c.loop-n.invariant in let k = i.counted in let b = i.begun in let t = c.loop-n-test.true in let o = c.is_desk.ensures.order in
+      let p = c.published.ensures.value in let q = c.begun.ensures.value in omega (arith, k, b, t, o, p, q);
+}
 
 pub returns-in_err-publish_next-clause-publishes : goal.returns-in_err-publish_next-clause-publishes
 returns-in_err-publish_next-clause-publishes c = publishes_step _ _ _ c.loop-n.invariant.publishes c.publish_next.ensures.step
