@@ -1,13 +1,14 @@
 //! The turns of each call.
-ghost use Rattle.std.specs.Prelude.{◌<◌, length};
+ghost use Rattle.std.specs.Prelude.{◌≤◌, length};
 ghost use Rattle.ff_types.specs.Drawings.{IsDrawing};
 ghost use Rattle.ff_types.specs.Sides.{AreFaces};
 
+use crate::reading::pattern_of;
+use crate::telling::{tell, tell_no, tell_time};
 use anyhow::Result;
 use ff_planar::faces;
-use ff_read::read_fold;
 use ff_reflect::fold;
-use ff_types::{Faces, MOST_BYTES, Pattern};
+use ff_types::{Faces, Pattern};
 use std::alloc::Global;
 use std::io::{Eprint, Print};
 use std::rt::Clock;
@@ -27,51 +28,34 @@ fn time_fold(
 {
     let start = Instant::now(rt)?;
     let folded = fold(alloc, pattern, faces);
-    let micros = start.elapsed(rt)?.as_micros();
+    tell_time(rt, "fold", start.elapsed(rt)?.as_micros())?;
     match folded {
-        Ok(folded) => println!(rt; "fold scale {}", folded.scale)?,
-        Err(no) => println!(rt; "fold {no}")?,
+        Ok(folded) => tell(rt, "fold scale", folded.scale),
+        Err(no) => tell_no(rt, "fold", no),
     }
-    eprintln!(rt; "fold {micros} us")?;
-    Ok(())
 }
 
 fn time_faces(rt: &(impl Clock + Print + Eprint), alloc: Global, pattern: &Pattern) -> Result<()>
-    requires some { 0 < length pattern.now.points }
+    requires some { 1 ≤ length pattern.now.points }
 {
     let start = Instant::now(rt)?;
     let found = faces(alloc, pattern);
-    let micros = start.elapsed(rt)?.as_micros();
-    eprintln!(rt; "faces {micros} us")?;
+    tell_time(rt, "faces", start.elapsed(rt)?.as_micros())?;
     match found {
         Ok(faces) => {
-            println!(rt; "faces {}", faces.rings.as_slice().len())?;
+            tell(rt, "faces", faces.rings.as_slice().len())?;
             time_fold(rt, alloc, pattern, &faces)
         }
-        Err(no) => {
-            println!(rt; "faces {no}")?;
-            Ok(())
-        }
+        Err(no) => tell_no(rt, "faces", no),
     }
 }
 
 /// Times the faces of the pattern that the bytes spell, and their folding.
 pub fn time(rt: &(impl Clock + Print + Eprint), alloc: Global, bytes: &[u8]) -> Result<()> {
-    if bytes.len() > MOST_BYTES {
-        return Ok(());
-    }
-    let pattern = match read_fold(alloc, bytes) {
-        Ok(pattern) => pattern,
-        Err(no) => {
-            println!(rt; "{no}")?;
-            return Ok(());
+    if let Some(pattern) = pattern_of(rt, alloc, bytes)? {
+        for _ in 0..TURNS {
+            time_faces(rt, alloc, &pattern)?;
         }
-    };
-    if pattern.points.as_slice().len() == 0 {
-        return Ok(());
-    }
-    for _ in 0..TURNS {
-        time_faces(rt, alloc, &pattern)?;
     }
     Ok(())
 }

@@ -1,8 +1,9 @@
 //! Times what the crates do: `ff_timing WORK`. What was done goes to standard output, the times to standard error.
 //!
 //! `close N` closes the system of an accordion of N panels, in two orders. `faces` and `layers` take FOLD on standard input and
-//! time the calls from it to the folding, and from the folding to the constraints. `orient` and `side_of` make that call 10^8
-//! times, and `crossing` tests each two of 8192 segments by `orient`; these print what they count, and are timed from outside.
+//! time the calls from it to the folding, and from the folding to the constraints. `epochs` takes what `bench` reads, and times the
+//! session on one thread beside one closure. `orient` and `side_of` make that call 10^8 times, and `crossing` tests each two of 8192
+//! segments by `orient`; these print what they count, and are timed from outside.
 #![tactic(auto)]
 
 mod accordion;
@@ -11,6 +12,9 @@ mod folding;
 mod layering;
 mod loops;
 mod plane;
+mod reading;
+mod serving;
+mod telling;
 
 use anyhow::Result;
 use loops::{crossings, lefts, lefts_of_lines};
@@ -59,10 +63,14 @@ fn main(rt: HostRuntime) -> Result<()> {
             let bytes = input(&rt)?;
             layering::time(&rt, alloc, bytes.as_slice())
         }
+        [work] if work.as_str() == "epochs" => {
+            let bytes = input(&rt)?;
+            serving::time(&rt, alloc, bytes.as_slice())
+        }
         [work] => {
             println!(rt; "{}", counted(alloc, work.as_str())?)?;
             Ok(())
         }
-        _ => Ok(println!(rt; "close N, faces, layers, orient, side_of or crossing")?),
+        _ => Ok(println!(rt; "close N, faces, layers, epochs, orient, side_of or crossing")?),
     }
 }
