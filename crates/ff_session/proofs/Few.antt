@@ -1,4 +1,4 @@
--- What was read has vertices, few creases, few constraints and few commands.
+-- What was read has vertices, few creases, few pairs, few constraints and few commands.
 use Rattle.std.proofs.Common.{◌≡◌, inl, inr, ℕ, suc, ◌+◌, ◌<◌, ◌≤◌, ◌^◌, Bool, true, false, List, [], ◌∷◌, length, Option, Some, None, IsTrue, if◌then◌else◌, nat_le, codes, option_and_then, refl, ap, sym, ◌∙◌, subst, arith}
 use Rattle.std.specs.List.{filter_map, cons_option, fold}
 use Rattle.std.proofs.lemmas.Bool.{leb-true}
@@ -9,7 +9,7 @@ use Rattle.ff_types.specs.declared.patterns.Pattern.{Pattern}
 use Rattle.ff_types.specs.declared.faces.Faces.{Faces}
 use Rattle.ff_types.specs.declared.faces.Folded.{Folded}
 use Rattle.ff_types.specs.declared.cases.Case.{Case}
-use Rattle.ff_types.specs.declared.limits.TheConstants.{MOST_CONSTRAINTS}
+use Rattle.ff_types.specs.declared.limits.TheConstants.{MOST_CONSTRAINTS, MOST_PAIRS}
 use Rattle.ff_types.specs.Faces.{list_before}
 use Rattle.ff_types.specs.Sheets.{sheet_of, edges_of}
 use Rattle.ff_types.specs.Cases.{key, start_of}
@@ -22,6 +22,10 @@ use Rattle.ff_read.specs.Benches.{IsBench, AreFew, total}
 use Rattle.ff_read.proofs.Lists.{as_many}
 use Rattle.ff_viewer.specs.declared.commands.Command.{Command}
 use Rattle.ff_serve.specs.Served.{commands_in}
+use Rattle.ff_desk.specs.Views.{total as in_all}
+use Rattle.ff_desk.specs.Desks.{IsFew}
+use Rattle.ff_bench.specs.Runs.{lengths_in}
+use Rattle.ff_bench.proofs.Scripts.{lengths_many}
 
 three_of : {A : Type 0} (o : Option (List A)) (ds : List A) → option_and_then (λ xs. if nat_le 3 (length xs) then Some xs else None) o ≡ Some ds → 3 ≤ length ds
 three_of None ds e = absurd (none_some e) where
@@ -49,7 +53,7 @@ short_options {A} {B} f (x ∷ xs) = by (f x) (short_options f xs) where
   by (Some y) l = omega (arith, l)
 
 -- no more starts than edges
-pub few_starts : (pattern : Pattern) (faces : Faces) (folded : Folded) (case : Case) → IsProblem pattern faces folded case → length case.starts < 2 ^ 31
+pub few_starts : (pattern : Pattern) (faces : Faces) (folded : Folded) (case : Case) → IsProblem pattern faces folded case → length case.starts < 2 ^ 21
 few_starts pattern faces folded case is =
     let l = short_options (start_of (sheet_of pattern faces folded) case.pairs) (edges_of (sheet_of pattern faces folded)) in
     let e = ap length is.case_is.starts_are in
@@ -57,7 +61,7 @@ few_starts pattern faces folded case is =
     let few = pattern.valid.few_edges in
     omega (arith, l, e, n, few)
 
-pub few_constraints : (pattern : Pattern) (faces : Faces) (folded : Folded) (case : Case) → IsProblem pattern faces folded case → length case.system.constraints < 2 ^ 32
+pub few_constraints : (pattern : Pattern) (faces : Faces) (folded : Folded) (case : Case) → IsProblem pattern faces folded case → length case.system.constraints ≤ 2 ^ 22
 few_constraints pattern faces folded case is = elim (at_most_or (length case.system.constraints) MOST_CONSTRAINTS) [
   | inl l ↦ omega (arith, l)
   | inr l ↦ absurd (is.within.constraints (
@@ -68,6 +72,19 @@ few_constraints pattern faces folded case is = elim (at_most_or (length case.sys
       each = λ n c t. witnessed_hold is.folds c (is.case_is.witnessed n c t);
     },
     omega (arith, l, case.valid.cited),
+  ))
+]
+
+pub few_pairs : (pattern : Pattern) (faces : Faces) (folded : Folded) (case : Case) → IsProblem pattern faces folded case → case.system.vars ≤ 2 ^ 18
+few_pairs pattern faces folded case is = elim (at_most_or (length case.pairs) MOST_PAIRS) [
+  | inl l ↦ omega (arith, l, case.valid.paired)
+  | inr l ↦ absurd (is.within.pairs (
+    case.pairs,
+    record {
+      sorted = is.case_is.sorted_pairs;
+      each = λ n p t. (is.case_is.pairs_are p.0 p.1 (is.case_is.sorted_pairs.rising n p t)).1 (n, t);
+    },
+    l,
   ))
 ]
 
@@ -83,3 +100,20 @@ few_commands scripts few = let e = commands_total scripts in let m = few.1 in om
 
 pub few_viewers : (scripts : List (List Command)) → AreFew scripts → length scripts < 2 ^ 32
 few_viewers scripts few = let m = few.0 in omega arith
+
+-- the same of the lengths
+many_commands : (scripts : List (List Command)) → in_all (lengths_in scripts) ≡ commands_in scripts
+many_commands [] = refl
+many_commands (s ∷ scripts) = ap (λ n. length s + n) (many_commands scripts)
+
+-- few enough for a workbench
+pub few_for_all : (pattern : Pattern) (faces : Faces) (folded : Folded) (case : Case) (budget : ℕ) (scripts : List (List Command)) → IsProblem pattern faces folded case → budget ≤ 1000000000 → AreFew scripts
+    → IsFew (record { case = case; budget = budget; lengths = lengths_in scripts })
+few_for_all pattern faces folded case budget scripts is turns few = record {
+  vars = few_pairs pattern faces folded case is;
+  constraints = few_constraints pattern faces folded case is;
+  starts = few_starts pattern faces folded case is;
+  turns = turns;
+  viewers = (let e = lengths_many scripts in let m = few.0 in omega (arith, e, m));
+  commands = (let e = many_commands scripts in let t = commands_total scripts in let m = few.1 in omega (arith, e, t, m));
+}

@@ -3,4 +3,4 @@
 
 mod session;
 
-pub use session::session_of;
+pub use session::{session_alone, session_of};

@@ -2,7 +2,7 @@
 //!
 //! `close N` closes the system of an accordion of N panels, in two orders. `faces` and `layers` take FOLD on standard input and
 //! time the calls from it to the folding, and from the folding to the constraints. `epochs` takes what `bench` reads, and times the
-//! session on one thread beside one closure. `orient` and `side_of` make that call 10^8 times, and `crossing` tests each two of 8192
+//! session on one thread and with workers beside one closure. `orient` and `side_of` make that call 10^8 times, and `crossing` tests each two of 8192
 //! segments by `orient`; these print what they count, and are timed from outside.
 #![tactic(auto)]
 

@@ -1,4 +1,4 @@
-//! The epochs of a workbench on one thread.
+//! The epochs of a workbench, on one thread and with workers.
 ghost use Rattle.std.specs.Prelude.{◌<◌, ◌≤◌, ◌^◌, length};
 
 use crate::telling::{tell, tell_no, tell_time};
@@ -7,11 +7,13 @@ use ff_outside::NoGate;
 use ff_problem::problem;
 use ff_propagate::{close, givens_fit};
 use ff_read::read_bench;
-use ff_session::session_of;
+use ff_session::{session_alone, session_of};
 use ff_types::{Case, Pattern};
 use std::alloc::Global;
 use std::io::{Eprint, Print};
 use std::rt::Clock;
+use std::sync::Wait;
+use std::thread::Threads;
 use std::time::Instant;
 
 // The turns of each part.
@@ -45,12 +47,12 @@ fn time_before(rt: &(impl Clock + Print + Eprint), alloc: Global, pattern: &Patt
     }
 }
 
-// The whole, from bytes to the journal.
-fn time_session(rt: &(impl Clock + Print + Eprint), alloc: Global, bytes: &[u8]) -> Result<()>
+// The whole on one thread, from bytes to the journal.
+fn time_alone(rt: &(impl Clock + Print + Eprint), alloc: Global, bytes: &[u8]) -> Result<()>
     requires { length bytes.now < 2 ^ 32 }
 {
     let start = Instant::now(rt)?;
-    let found = session_of(alloc, bytes, BUDGET, &NoGate);
+    let found = session_alone(alloc, bytes, BUDGET, &NoGate);
     tell_time(rt, "session", start.elapsed(rt)?.as_micros())?;
     match found {
         Ok(core) => tell(rt, "entries", core.journal().as_slice().len()),
@@ -58,12 +60,40 @@ fn time_session(rt: &(impl Clock + Print + Eprint), alloc: Global, bytes: &[u8])
     }
 }
 
-/// Times the session of a `bench` input, and of its parts reading, the pattern's case and one closure of its creases.
-pub fn time(rt: &(impl Clock + Print + Eprint), alloc: Global, bytes: &[u8]) -> Result<()> {
+// The same with workers.
+fn time_workers<R: Clock + Print + Eprint + Threads + Wait + Sync>(
+    rt: &R,
+    alloc: Global,
+    bytes: &[u8],
+    workers: u32,
+    name: &str,
+) -> Result<()>
+    requires few { length bytes.now < 2 ^ 32 }
+    requires workers { (0 < workers) × (workers ≤ 16) }
+{
+    let start = Instant::now(rt)?;
+    let found = session_of(rt, alloc, bytes, BUDGET, workers, &NoGate);
+    tell_time(rt, name, start.elapsed(rt)?.as_micros())?;
+    match found {
+        Ok(journal) => tell(rt, name, journal.as_slice().len()),
+        Err(no) => tell_no(rt, name, no),
+    }
+}
+
+/// Times the session of a `bench` input on one thread and with 1, 2 and 4 workers, and of its parts reading, the pattern's case and one
+/// closure of its creases.
+pub fn time<R: Clock + Print + Eprint + Threads + Wait + Sync>(
+    rt: &R,
+    alloc: Global,
+    bytes: &[u8],
+) -> Result<()> {
     if bytes.len() >= 1 << 32 {
         return Ok(());
     }
-    time_session(rt, alloc, bytes)?;
+    time_alone(rt, alloc, bytes)?;
+    time_workers(rt, alloc, bytes, 1, "workers 1")?;
+    time_workers(rt, alloc, bytes, 2, "workers 2")?;
+    time_workers(rt, alloc, bytes, 4, "workers 4")?;
     let start = Instant::now(rt)?;
     let read = read_bench(alloc, bytes);
     tell_time(rt, "read", start.elapsed(rt)?.as_micros())?;

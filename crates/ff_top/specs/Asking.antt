@@ -1,18 +1,23 @@
 -- What the words ask for: the job that they name, and how much input is read for it. This project's own.
-use Rattle.std.specs.Prelude.{ℕ, List, Option, None, Some}
+use Rattle.std.specs.Prelude.{ℕ, ◌<◌, ◌≤◌, List, Option, None, Some}
 use Rattle.ff_types.specs.declared.limits.TheConstants.{MOST_BYTES}
 use Rattle.ff_judged.specs.declared.judging.TheConstants.{MOST_CHECK_BYTES}
 use Rattle.ff_words.specs.declared.jobs.Job.{Job}
 use Rattle.ff_words.specs.declared.jobs.Job.TheVariants.{Solve, Check, Bench, Make}
 use Rattle.ff_words.specs.Form.{job_named}
+use Rattle.ff_top.specs.declared.asking.Asked.{Asked}
 
--- the budget of turns of a job of a workbench
-abbrev pub bench_budget : Option Job → Option ℕ
-bench_budget None = None
-bench_budget (Some (Solve budget)) = None
-bench_budget (Some Check) = None
-bench_budget (Some (Bench budget workers)) = Some budget
-bench_budget (Some (Make count budget)) = None
+-- the budget of turns and the workers of a job of a workbench
+abbrev pub bench_asked : Option Job → Option Asked
+bench_asked None = None
+bench_asked (Some (Solve budget)) = None
+bench_asked (Some Check) = None
+bench_asked (Some (Bench budget workers)) = Some (record { budget = budget; workers = workers })
+bench_asked (Some (Make count budget)) = None
+
+-- at most a thousand million turns, and from 1 to 16 workers
+abbrev pub AreWithin : Asked → Type 0
+AreWithin a = (a.budget ≤ 1000000000) × ((0 < a.workers) × (a.workers ≤ 16))
 
 -- the most bytes of input that are read for a job, None where nothing is read for it; the first argument says it for a workbench
 abbrev pub most_read : Option ℕ → Option Job → Option ℕ

@@ -17,13 +17,13 @@ lines_at (Some entry) = entry_text entry
 abbrev pub piece_count : Writing → ℕ
 piece_count (Line text) = 1
 piece_count (Report r) = suc (suc (length r.parts))
-piece_count (Transcript core) = suc (length core.journal)
+piece_count (Transcript journal) = suc (length journal)
 
 -- the piece with this number
 abbrev pub piece_of : Writing → ℕ → List ℕ
 piece_of (Line text) n = text
 piece_of (Report r) n = piece_at r.head r.parts r.outcomes r.end n
-piece_of (Transcript core) n = lines_at (slice_get core.journal n)
+piece_of (Transcript journal) n = lines_at (slice_get journal n)
 
 -- all of them
 abbrev pub text_of : Writing → List ℕ

@@ -3,7 +3,7 @@ ghost use Rattle.std.specs.Prelude.{◌≡◌, ◌≤◌, ℕ, List, None, map, 
 ghost use Rattle.std.specs.Prelude.{IfOk, OnOk, OnErr, IsErrOf, IfSome};
 ghost use Rattle.ff_outside.specs.Streams.{Rose};
 ghost use Rattle.ff_top.specs.Transfer.{Tells, IsReadOff};
-ghost use Rattle.ff_top.specs.Asking.{limit, limit_alone, most_read};
+ghost use Rattle.ff_top.specs.Asking.{AreWithin, limit, limit_alone, most_read};
 ghost use Rattle.ff_top.specs.Solving.{AnswersSolve};
 ghost use Rattle.ff_top.specs.Checking.{AnswersCheck};
 ghost use Rattle.ff_top.specs.Counts.{HasCount};
@@ -12,7 +12,7 @@ ghost use Rattle.ff_top.specs.Writings.{text_of};
 ghost use Rattle.ff_top.specs.Endings.{Ends};
 ghost use Rattle.ff_top.specs.Answer.{AnswersTo, NoBench, IsAnswer, IsAnswerOfRun, IsRun, IsAnswered, IsComplete, OneAnswer, SomeAnswer};
 
-use crate::asking::{bench_turns, job_of};
+use crate::asking::{Asked, asked_of, job_of};
 use crate::benching::bench;
 use crate::checking::check;
 use crate::making::make;
@@ -27,6 +27,8 @@ use ff_outside::{Gate, Sink, Source};
 use ff_types::{MOST_BYTES, Refusal};
 use ff_words::Job;
 use std::alloc::Global;
+use std::sync::Wait;
+use std::thread::Threads;
 
 // The answer to `solve` and what the source gives.
 fn prepare_solve<S: Source>(alloc: Global, budget: u64, source: &mut S) -> Result<Outcome, ReadNo>
@@ -55,20 +57,21 @@ fn prepare_check<S: Source>(alloc: Global, source: &mut S) -> Result<Outcome, Re
 }
 
 // The answer to `bench` and what the source gives.
-fn prepare_bench<S: Source, G: Gate>(
+fn prepare_bench<R: Threads + Wait + Sync, S: Source, G: Gate + Sync>(
+    rt: &R,
     alloc: Global,
-    budget: u64,
+    asked: Asked,
     source: &mut S,
     gate: &G,
 ) -> Result<Outcome, ReadNo>
-    requires { budget ≤ 1000000000 }
-    ensures answer { IfOk result (λ o. (input : List ℕ) × Tells (S.left source.old) input × AnswersBench budget input o.status (text_of o.writing)) }
+    requires { AreWithin asked }
+    ensures answer { IfOk result (λ o. (input : List ℕ) × Tells (S.left source.old) input × AnswersBench asked.budget input o.status (text_of o.writing)) }
     ensures read_off { OnOk result (IsReadOff MOST_BYTES (S.left source.old) (S.left source.new)) }
     ensures cause { IsErrOf result ReadNo.Failed → Rose (S.faults source.old) (S.faults source.new) (S.at_last source.new) }
     ensures later { S.faults source.old ≤ S.faults source.new }
 {
     match read_all(alloc, source, MOST_BYTES)? {
-        Input::Whole(bytes) => Ok(bench(alloc, &bytes, budget, gate)?),
+        Input::Whole(bytes) => Ok(bench(rt, alloc, &bytes, asked, gate)?),
         Input::Beyond => Ok(refuse(alloc, Refusal::TooLong)?),
     }
 }
@@ -114,7 +117,8 @@ fn prepare_alone<S: Source>(
 }
 
 // The answer to the words and what the source gives.
-fn prepare<S: Source, G: Gate>(
+fn prepare<R: Threads + Wait + Sync, S: Source, G: Gate + Sync>(
+    rt: &R,
     alloc: Global,
     words: &[String],
     source: &mut S,
@@ -127,8 +131,8 @@ fn prepare<S: Source, G: Gate>(
     ensures later { S.faults source.old ≤ S.faults source.new }
 {
     let job = job_of(alloc, words)?;
-    match bench_turns(job) {
-        Some(budget) => prepare_bench(alloc, budget, source, gate),
+    match asked_of(job) {
+        Some(asked) => prepare_bench(rt, alloc, asked, source, gate),
         None => prepare_job(alloc, job, source),
     }
 }
@@ -190,12 +194,15 @@ pub fn run_alone<S: Source, K: Sink>(
 }
 
 /// Does what the words say with the source's bytes, and writes the defined text to the sink: what `run_alone` does, and for `bench` the
-/// workbench, whose viewers are served one after the other. The gate is passed after each reply to a viewer; nothing else waits.
+/// workbench, whose viewers and workers each run in a thread of their own, where one can be made. The gate is passed before each turn of a
+/// worker, after each reply to a viewer, and before each constraint that is examined. For `bench` it may wait; if it returns, all of this
+/// holds, in whatever order the threads came.
 ///
 /// The words are read first, then the source is read to its end or to one byte past the limit, then the text is
-/// written, part by part: for `bench` once the last viewer has been served, an entry of the journal after the other. A fault ends the
+/// written, part by part: for `bench` once all viewers and workers have returned, an entry of the journal after the other. A fault ends the
 /// run, and so does want of memory: what has been read stays read then, and what has been written stays written.
-pub fn run<S: Source, K: Sink, G: Gate + Sync>(
+pub fn run<R: Threads + Wait + Sync, S: Source, K: Sink, G: Gate + Sync>(
+    rt: &R,
     alloc: Global,
     words: &[String],
     source: &mut S,
@@ -225,7 +232,7 @@ pub fn run<S: Source, K: Sink, G: Gate + Sync>(
     ensures source_later { S.faults source.old ≤ S.faults source.new }
     ensures sink_later { K.faults sink.old ≤ K.faults sink.new }
 {
-    let prepared = prepare(alloc, words, source, gate);
+    let prepared = prepare(rt, alloc, words, source, gate);
     finish(alloc, prepared, sink)
 }
 

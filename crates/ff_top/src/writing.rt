@@ -5,11 +5,10 @@ ghost use Rattle.ff_top.specs.Transfer.{Got, GotFront, GotPart};
 ghost use Rattle.ff_top.specs.Writings.{lines_at, piece_count, piece_of, text_of};
 
 use crate::transfer::write_all;
-use ff_core::Core;
 use ff_journal::Entry;
 use ff_outside::Sink;
 use ff_solve::Report;
-use ff_tables::{NoMemory, Text};
+use ff_tables::{Items, NoMemory, Text};
 use ff_transcript::{end_text, entry_text};
 use std::alloc::Global;
 use thiserror::Error;
@@ -19,7 +18,7 @@ use thiserror::Error;
 pub(crate) enum Writing {
     Line(Text),
     Report(Report),
-    Transcript(Core),
+    Transcript(Items<Entry>),
 }
 
 /// Why a text wasn't written whole.
@@ -42,10 +41,10 @@ impl From<NoMemory> for WriteNo {
     }
 }
 
-fn transcript_pieces(core: &Core) -> usize
-    ensures { result ≡ suc (length core.now.journal) }
+fn transcript_pieces(journal: &[Entry]) -> usize
+    ensures { result ≡ suc (length journal.now) }
 {
-    core.journal().as_slice().len() + 1
+    journal.len() + 1
 }
 
 // The lines of an entry, or the last line behind all of them.
@@ -64,7 +63,7 @@ fn pieces(writing: &Writing) -> usize
     match writing {
         Writing::Line(_) => 1,
         Writing::Report(report) => report.pieces(),
-        Writing::Transcript(core) => transcript_pieces(core),
+        Writing::Transcript(journal) => transcript_pieces(journal.as_slice()),
     }
 }
 
@@ -75,7 +74,7 @@ fn piece(alloc: Global, writing: &Writing, n: usize) -> Result<Text, NoMemory>
     match writing {
         Writing::Line(text) => text.copy(alloc),
         Writing::Report(report) => report.piece(alloc, n),
-        Writing::Transcript(core) => transcript_piece(alloc, core.journal().as_slice(), n),
+        Writing::Transcript(journal) => transcript_piece(alloc, journal.as_slice(), n),
     }
 }
 

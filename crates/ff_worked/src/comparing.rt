@@ -5,8 +5,8 @@ fn rest_of<'a>(text: &'a str, front: &str) -> Option<&'a str> {
     text.strip_prefix(front)
 }
 
-/// Whether the text is the wanted one. A line `...` of the wanted text stands for any lines.
-pub fn fits(got: &str, wanted: &str) -> bool {
+// Whether the text is this one. A line `...` of it stands for any lines.
+fn is_text(got: &str, wanted: &str) -> bool {
     match wanted.split_once("...\n") {
         None => got == wanted,
         Some((front, end)) => match rest_of(got, front) {
@@ -14,4 +14,14 @@ pub fn fits(got: &str, wanted: &str) -> bool {
             None => false,
         },
     }
+}
+
+/// Whether the text is the wanted one, or one of those that lines `-- or --` part. A line `...` of a wanted text stands for any lines.
+pub fn fits(got: &str, wanted: &str) -> bool {
+    for text in wanted.split("-- or --\n") {
+        if is_text(got, text) {
+            return true;
+        }
+    }
+    false
 }

@@ -10,6 +10,8 @@ mod stages;
 
 use rows::{Kind, Row, row_of};
 use std::alloc::Global;
+use std::sync::Wait;
+use std::thread::Threads;
 use std::{fs, io};
 
 // The text of a file, or that there is none.
@@ -42,11 +44,14 @@ struct Tried {
 }
 
 // Tries a row.
-fn try_row<R: std::rt::Files + AllocGlobal>(rt: &R, row: &Row) -> io::Result<Tried> {
+fn try_row<R: std::rt::Files + AllocGlobal + Threads + Wait + Sync>(
+    rt: &R,
+    row: &Row,
+) -> io::Result<Tried> {
     let alloc: Global = rt.alloc();
     let input = input_of(rt, row)?;
     let wanted = wanted_by(rt, row)?;
-    let got = runs::answer(alloc, row, input.as_str(), wanted.as_str())?;
+    let got = runs::answer(rt, alloc, row, input.as_str(), wanted.as_str())?;
     Ok(Tried { got, wanted })
 }
 

@@ -7,6 +7,8 @@ use ff_outside::{MemSink, MemSource, NoGate, SteadySource};
 use ff_top::status::Status;
 use ff_top::top;
 use std::alloc::{AllocError, Global};
+use std::sync::Wait;
+use std::thread::Threads;
 
 // The room for an answer.
 const ROOM: usize = 1 << 22;
@@ -36,29 +38,45 @@ fn sink_of(
 }
 
 // With a source and a sink that take their time.
-fn slowly(alloc: Global, words: &[String], input: &str) -> Result<String, AllocError> {
+fn slowly<R: Threads + Wait + Sync>(
+    rt: &R,
+    alloc: Global,
+    words: &[String],
+    input: &str,
+) -> Result<String, AllocError> {
     let bytes = Vec::from_slice(alloc, input.as_bytes())?;
     let mut source = MemSource::new(bytes, 7, Vec::new(alloc));
     let mut sink = sink_of(alloc, ROOM, 10, Vec::new(alloc))?;
-    let status = top::run(alloc, words, &mut source, &mut sink, &NoGate);
+    let status = top::run(rt, alloc, words, &mut source, &mut sink, &NoGate);
     answer_text(alloc, status, sink.bytes())
 }
 
-fn steadily(alloc: Global, words: &[String], bytes: Vec<u8>) -> Result<String, AllocError> {
+fn steadily<R: Threads + Wait + Sync>(
+    rt: &R,
+    alloc: Global,
+    words: &[String],
+    bytes: Vec<u8>,
+) -> Result<String, AllocError> {
     let mut source = SteadySource::new(bytes);
     let mut sink = sink_of(alloc, ROOM, ROOM, Vec::new(alloc))?;
-    let status = top::run(alloc, words, &mut source, &mut sink, &NoGate);
+    let status = top::run(rt, alloc, words, &mut source, &mut sink, &NoGate);
     answer_text(alloc, status, sink.bytes())
 }
 
-fn run(alloc: Global, words: &[String], input: &str) -> Result<String, AllocError> {
+fn run<R: Threads + Wait + Sync>(
+    rt: &R,
+    alloc: Global,
+    words: &[String],
+    input: &str,
+) -> Result<String, AllocError> {
     if input.len() < SHORT {
-        return slowly(alloc, words, input);
+        return slowly(rt, alloc, words, input);
     }
-    steadily(alloc, words, Vec::from_slice(alloc, input.as_bytes())?)
+    steadily(rt, alloc, words, Vec::from_slice(alloc, input.as_bytes())?)
 }
 
-fn padded(
+fn padded<R: Threads + Wait + Sync>(
+    rt: &R,
     alloc: Global,
     words: &[String],
     input: &str,
@@ -66,10 +84,11 @@ fn padded(
 ) -> Result<String, AllocError> {
     let mut bytes = Vec::from_slice(alloc, input.as_bytes())?;
     bytes.resize(length, b' ')?;
-    steadily(alloc, words, bytes)
+    steadily(rt, alloc, words, bytes)
 }
 
-fn fronts(
+fn fronts<R: Threads + Wait + Sync>(
+    rt: &R,
     alloc: Global,
     words: &[String],
     input: &str,
@@ -77,7 +96,7 @@ fn fronts(
 ) -> Result<String, AllocError> {
     for length in 0..input.len() {
         let front = Vec::from_slice(alloc, &input.as_bytes()[..length])?;
-        let text = steadily(alloc, words, front)?;
+        let text = steadily(rt, alloc, words, front)?;
         if text.as_str() != wanted {
             return Ok(text);
         }
@@ -85,15 +104,21 @@ fn fronts(
     String::from_str(alloc, wanted)
 }
 
-fn read_fault(alloc: Global, words: &[String], input: &str) -> Result<String, AllocError> {
+fn read_fault<R: Threads + Wait + Sync>(
+    rt: &R,
+    alloc: Global,
+    words: &[String],
+    input: &str,
+) -> Result<String, AllocError> {
     let bytes = Vec::from_slice(alloc, input.as_bytes())?;
     let mut source = MemSource::new(bytes, 7, Vec::from_slice(alloc, &[0u64])?);
     let mut sink = sink_of(alloc, ROOM, 10, Vec::new(alloc))?;
-    let status = top::run(alloc, words, &mut source, &mut sink, &NoGate);
+    let status = top::run(rt, alloc, words, &mut source, &mut sink, &NoGate);
     answer_text(alloc, status, sink.bytes())
 }
 
-fn write_fault(
+fn write_fault<R: Threads + Wait + Sync>(
+    rt: &R,
     alloc: Global,
     words: &[String],
     input: &str,
@@ -102,19 +127,25 @@ fn write_fault(
 ) -> Result<String, AllocError> {
     let mut source = SteadySource::new(Vec::from_slice(alloc, input.as_bytes())?);
     let mut sink = sink_of(alloc, room, 10, Vec::from_slice(alloc, &[failing])?)?;
-    let status = top::run(alloc, words, &mut source, &mut sink, &NoGate);
+    let status = top::run(rt, alloc, words, &mut source, &mut sink, &NoGate);
     answer_text(alloc, status, sink.bytes())
 }
 
 /// What the row's call answers to the input.
-pub fn answer(alloc: Global, row: &Row, input: &str, wanted: &str) -> Result<String, AllocError> {
+pub fn answer<R: Threads + Wait + Sync>(
+    rt: &R,
+    alloc: Global,
+    row: &Row,
+    input: &str,
+    wanted: &str,
+) -> Result<String, AllocError> {
     let words = row.words.as_slice();
     match row.kind {
-        Kind::Run | Kind::Refused => run(alloc, words, input),
-        Kind::Padded(length) => padded(alloc, words, input, length),
-        Kind::Fronts => fronts(alloc, words, input, wanted),
-        Kind::ReadFault => read_fault(alloc, words, input),
-        Kind::WriteFault(failing, room) => write_fault(alloc, words, input, failing, room),
+        Kind::Run | Kind::Refused => run(rt, alloc, words, input),
+        Kind::Padded(length) => padded(rt, alloc, words, input, length),
+        Kind::Fronts => fronts(rt, alloc, words, input, wanted),
+        Kind::ReadFault => read_fault(rt, alloc, words, input),
+        Kind::WriteFault(failing, room) => write_fault(rt, alloc, words, input, failing, room),
         Kind::Stages => stages(alloc, input),
     }
 }

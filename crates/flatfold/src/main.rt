@@ -24,6 +24,7 @@ fn main(rt: HostRuntime) -> ExitCode {
     };
     let status = match words {
         Ok(words) => run(
+            &rt,
             alloc,
             words.as_slice(),
             &mut StdSource::new(rt.reader()),

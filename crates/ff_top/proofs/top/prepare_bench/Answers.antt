@@ -13,5 +13,5 @@ returns-in_ok-refuse-in-Beyond-clause-answer g c =
     let long : MOST_BYTES < length read.0 = subst (λ (i : Input). IsInput MOST_BYTES read.0 i) c.in-Beyond.is read.2 in (
       read.0,
       read.1,
-      refused_bench c.args.budget read.0 c.in_ok-refuse-in-Beyond.field-0.status (text_of c.in_ok-refuse-in-Beyond.field-0.writing) TooLong (inl (long, refl)) c.in_ok-refuse-in-Beyond.ensures,
+      refused_bench c.args.asked.budget read.0 c.in_ok-refuse-in-Beyond.field-0.status (text_of c.in_ok-refuse-in-Beyond.field-0.writing) TooLong (inl (long, refl)) c.in_ok-refuse-in-Beyond.ensures,
     )

@@ -1,13 +1,13 @@
-use Rattle.std.proofs.Common.{rules}
+use Rattle.std.proofs.Common.{rules, arith}
 use Rattle.ff_session.proofs.Few.{few_starts, few_constraints, few_commands, few_viewers}
 use Rattle.ff_session.proofs.Made.{made}
-use Rattle.ff_session.proofs.session.served.Goals as goal
+use Rattle.ff_session.proofs.session.serve_on.Goals as goal
 
 pub serve-requires-clause-starts : goal.serve-requires-clause-starts
-serve-requires-clause-starts g c = few_starts _ _ _ _ c.requires.problem
+serve-requires-clause-starts g c = let l = few_starts _ _ _ _ c.requires.problem in omega (arith, l)
 
 pub serve-requires-clause-constraints : goal.serve-requires-clause-constraints
-serve-requires-clause-constraints g c = few_constraints _ _ _ _ c.requires.problem
+serve-requires-clause-constraints g c = let l = few_constraints _ _ _ _ c.requires.problem in omega (arith, l)
 
 pub serve-requires-clause-viewers : goal.serve-requires-clause-viewers
 serve-requires-clause-viewers g c = few_viewers c.args.input.now.scripts c.requires.few
