@@ -7,9 +7,9 @@ use Rattle.ff_propagate.specs.FactRule.{MeetsFactRule}
 use Rattle.ff_journal.specs.declared.entries.Entry.{Entry}
 use Rattle.ff_journal.specs.declared.entries.Entry.TheVariants as entry
 use Rattle.ff_journal.specs.declared.entries.Outcome.{Outcome}
-use Rattle.ff_journal.specs.Epochs.{last_begun, last_of, givens_of}
+use Rattle.ff_journal.specs.Epochs.{last_begun, last_of}
 use Rattle.ff_journal.specs.Publications.{outcomes, published, IsLast, IsOutcome}
-use Rattle.ff_journal.specs.Shown.{AreFactsOf, AreOfBoard}
+use Rattle.ff_journal.specs.Shown.{AreOfBoard}
 use Rattle.ff_core.specs.States.{State, WorksOn, StandsFor, AreOpening}
 use Rattle.ff_core.specs.Steps.{WorkNext}
 use Rattle.ff_journal.proofs.Snoc.{changes_same, legal_more, givens_kept, outcomes_published, last_more, named_published}
@@ -80,10 +80,3 @@ appended case old fs outcome w n j stands works is right board next added =
           (subst (λ k. IsOutcome case old.journal k outcome) is right) board (subst (λ k. WorkNext case old.journal (k + 1) w) is next)),
       subst (λ x. WorkNext case x (n + 1) w) (sym added) (next_kept case old.journal n outcome (n + 1) w next),
     )
-
--- the epoch worked on has begun, and the facts are by its givens
-pub at_work : (case : Case) (old : State) (fs : List (Option Fact)) (n : ℕ) → StandsFor case old → old.working ≡ Some fs → n ≡ published old.journal
-    → (n ≤ last_begun old.journal) × MeetsFactRule case.system.vars case.system.constraints (givens_of case old.journal n) fs
-at_work case old fs n stands works is =
-    let r = subst (λ x. WorksOn case old.journal x) works stands.works in
-    (subst (λ k. k ≤ last_begun old.journal) (sym is) r.0, subst (λ k. AreFactsOf case old.journal k fs) (sym is) r.1)

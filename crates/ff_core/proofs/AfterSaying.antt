@@ -20,7 +20,7 @@ use Rattle.ff_core.specs.States.{State, WorksOn, ShowsLast, KeepsPages, StandsFo
 use Rattle.ff_core.specs.Steps.{WorkNext, WorksOnAfter, ReopensFrom, IsReopened}
 use Rattle.ff_pages.specs.declared.pages.Pages.{Pages}
 use Rattle.ff_journal.specs.Shown.{AreFactsOf, NamesFit}
-use Rattle.ff_journal.proofs.Snoc.{legal_more, changes_same, givens_kept, begun_grows, outcomes_said, last_said, named_said}
+use Rattle.ff_journal.proofs.Snoc.{legal_more, givens_kept, begun_grows, outcomes_said, last_said, named_said}
 
 -- no more epochs are published than have begun
 pub published_begun : (case : Case) (j : List Entry) (w : Option (List (Option Fact))) → WorksOn case j w
@@ -77,16 +77,6 @@ work_kept case j viewer index said told fs (l, rule) =
     let p : published (j ++ s ∷ []) ≡ published j = published_said j viewer index said told in
     let g : last_begun j ≤ last_begun (j ++ s ∷ []) = begun_grows j s in
     (omega (arith, p, g, l), subst (λ n. AreFactsOf case (j ++ s ∷ []) n fs) (sym p) (facts_kept case j s (published j) fs l rule))
-
--- where none is, and the entry is no change, none is afterwards
-pub idle_kept : (case : Case) (j : List Entry) (viewer index : ℕ) (said : Command) (told : Reply)
-    → is_change (entry.Said viewer index said told) ≡ false → WorksOn case j None
-    → WorksOn case (j ++ entry.Said viewer index said told ∷ []) None
-idle_kept case j viewer index said told same h =
-    let s : Entry = entry.Said viewer index said told in
-    let p : published (j ++ s ∷ []) ≡ published j = published_said j viewer index said told in
-    let c : last_begun (j ++ s ∷ []) ≡ last_begun j = ap (λ es. length es) (changes_same j s same) in
-    omega (arith, p, c, h)
 
 -- the facts of givens are by the rule
 pub opening_rule : (vars : ℕ) (cons : List Constraint) (gs : List Given) (fs : List (Option Fact)) → AreOpening vars gs fs

@@ -1,30 +1,25 @@
 -- Commands that are answered and entered.
-use Rattle.std.proofs.Common.{◌≡◌, ℕ, zero, suc, ◌+◌, ◌<◌, ◌≤◌, inl, inr, List, [], ◌∷◌, ◌++◌, length, sym, refl, ap, ◌∙◌, subst, arith, Option, Some, None, Contains}
-use Rattle.ff_basics.proofs.Numbers.{at_most_or}
+use Rattle.std.proofs.Common.{◌≡◌, ℕ, ◌+◌, ◌≤◌, List, [], ◌∷◌, ◌++◌, length, sym, refl, ap, ◌∙◌, subst, arith, Option, Some, None}
 use Rattle.ff_tables.specs.declared.orders.Order.{Order}
 use Rattle.ff_types.specs.declared.cases.Case.{Case}
 use Rattle.ff_propagate.specs.declared.facts.Fact.{Fact}
 use Rattle.ff_viewer.specs.declared.commands.Command.{Command}
 use Rattle.ff_viewer.specs.declared.commands.Command.TheVariants as command
-use Rattle.ff_viewer.specs.declared.commands.Question.{Question}
 use Rattle.ff_viewer.specs.declared.replies.Reply.{Reply}
 use Rattle.ff_journal.specs.declared.entries.Entry.{Entry}
 use Rattle.ff_journal.specs.declared.entries.Entry.TheVariants as entry
 use Rattle.ff_journal.specs.declared.entries.Outcome.TheVariants as outcome
 use Rattle.ff_journal.specs.Epochs.{last_begun}
 use Rattle.ff_journal.specs.Publications.{published, IsLast}
-use Rattle.ff_journal.specs.Reasons.{names_in}
 use Rattle.ff_journal.specs.Journals.{IsSaid, commands_of}
 use Rattle.ff_journal.specs.Shown.{AreShown, NamesFit}
-use Rattle.ff_journal.specs.Waiting.{IsBoardCommand, IsNotPublished}
-use Rattle.ff_journal.proofs.Right.{nameless}
+use Rattle.ff_journal.specs.Waiting.{IsNotPublished}
 use Rattle.ff_core.specs.declared.events.Step.TheVariants as step
 use Rattle.ff_core.specs.States.{State, ShowsLast, StandsFor, IsSameButPages}
 use Rattle.ff_core.specs.Steps.{Says, WorksOnAfter, IsReopened}
 use Rattle.ff_core.proofs.AfterSaying.{said_in, entered_stands, entered_says, begun_room, taken_back, not_empty}
 use Rattle.std.specs.Prelude.{IfSome}
-use Rattle.ff_told.specs.Paged.{AnswersLast}
-use Rattle.ff_core.proofs.Kept.{shown_are, something_shown}
+use Rattle.ff_core.proofs.Kept.{shown_are}
 
 -- ---- the shown facts
 
@@ -32,28 +27,11 @@ pub shown_last : (case : Case) (core : State) (fs : List (Option Fact)) → Stan
     → (e : ℕ) (board : List (Option Order)) → IsLast core.journal e (outcome.Board board) → AreShown case core.journal e (outcome.Board board) fs
 shown_last case core fs stands is e board l = shown_are case core.journal fs e (outcome.Board board) (subst (λ o. ShowsLast case core.journal o) is stands.shows) l
 
-pub shown_there : (case : Case) (core : State) → StandsFor case core → 0 < published core.journal → core.shown ≡ None → ⊥
-shown_there case core stands some none = something_shown case core.journal core.shown stands.shows some none
-
 -- ---- other pages
 
 -- the state with the pages of another
 pub same_state : (old mid : State) → IsSameButPages old mid → mid ≡ record old { pages = mid.pages }
 same_state old mid same i = record { journal = same.journal i; budget = same.budget i; working = same.working i; shown = same.shown i; pages = mid.pages }
-
-pub same_self : (s : State) → IsSameButPages s s
-same_self s = record { journal = refl; budget = refl; working = refl; shown = refl }
-
-pub same_then : (a b c : State) → IsSameButPages a b → IsSameButPages b c → IsSameButPages a c
-same_then a b c s t = record {
-  journal = t.journal ∙ s.journal;
-  budget = t.budget ∙ s.budget;
-  working = t.working ∙ s.working;
-  shown = t.shown ∙ s.shown;
-}
-
-pub same_kept : (a b c : State) → IsSameButPages a b → c ≡ b → IsSameButPages a c
-same_kept a b c s e = subst (λ x. IsSameButPages a x) (sym e) s
 
 -- a right reply, entered in a state with other pages
 pub said_on : (case : Case) (old mid : State) (viewer : ℕ) (said : Command) (told copied : Reply) → IsSameButPages old mid → copied ≡ told

@@ -10,7 +10,7 @@ use Rattle.ff_journal.specs.Epochs.{givens_of}
 use Rattle.ff_journal.specs.Publications.{published, IsLast}
 use Rattle.ff_journal.specs.Shown.{AreShown}
 use Rattle.ff_journal.proofs.LastPublished.{value_is}
-use Rattle.ff_told.specs.Paged.{AreAllPages, ShowsBoard, KeepAllPages}
+use Rattle.ff_told.specs.Paged.{KeepAllPages}
 use Rattle.ff_told.proofs.Kept.{AreKept, one_last}
 use Rattle.ff_core.specs.States.{State, ShowsLast, KeepsPages, StandsFor}
 
@@ -24,13 +24,6 @@ shown_are case j fs e last (d, o, l, shown) m =
 pub something_shown : (case : Case) (j : List Entry) (o : Option (List (Option Fact))) → ShowsLast case j o → 0 < published j → o ≡ None → ⊥
 something_shown case j None h l e = omega (arith, h, l)
 something_shown case j (Some fs) h l e = cc
-
-pub keeps_laid : (case : Case) (budget : ℕ) (j : List Entry) (fs : List (Option Fact)) (pages : List Pages) → ShowsBoard j
-    → AreAllPages case budget (givens_of case j (published j - 1)) fs pages → KeepsPages case budget j (Some fs) (Some pages)
-keeps_laid case budget j fs pages (e, board, l) all =
-    let c = l.counted in
-    let same : published j - 1 ≡ e = omega (arith, c) in
-    (e, board, l, subst (λ n. AreAllPages case budget (givens_of case j n) fs pages) same all)
 
 kept_by : (case : Case) (core : State) (shown : Option (List (Option Fact))) (fs : List (Option Fact)) (pages : List Pages) → shown ≡ Some fs
     → ShowsLast case core.journal shown → KeepsPages case core.budget core.journal shown (Some pages) → AreKept case core.budget core.journal fs pages

@@ -1,7 +1,7 @@
 -- The facts that an epoch is opened with.
 use Rattle.std.proofs.Common.{◌≡◌, ◌≢◌, ℕ, zero, suc, ◌+◌, ◌<◌, List, length, get_or, replicate, slice_get, slice_set, sym, refl, ap, ◌∙◌, subst, arith, Option, Some, None}
 use Rattle.std.proofs.lemmas.List.{get_or-set_same, get_or-set_other, length-set, get_or_default}
-use Rattle.std.proofs.lemmas.Option.{slice_get-get_or, slice_get_within}
+use Rattle.std.proofs.lemmas.Option.{slice_get-get_or}
 use mathlib.Core.Logic.{dite}
 use native.Mathlib.Decide.{ℕ_discrete}
 use Rattle.ff_tables.specs.declared.givens.Given.{Given}
@@ -9,7 +9,7 @@ use Rattle.ff_propagate.specs.declared.facts.Fact.{Fact}
 use Rattle.ff_propagate.specs.declared.facts.Reason.TheVariants as reason
 use Rattle.ff_propagate.specs.Facts.{fact_at}
 use Rattle.ff_propagate.specs.Closing.{GivensFit}
-use Rattle.ff_core.specs.States.{AreOpening, AreOpeningTo, IsFirstGiven}
+use Rattle.ff_core.specs.States.{AreOpeningTo, IsFirstGiven}
 
 none_at : (n v : ℕ) → fact_at (replicate n None) v ≡ None
 none_at zero v = refl
@@ -18,20 +18,6 @@ none_at (suc n) (suc v) = none_at n v
 
 no_fact : (h : Fact) → None ≡ Some h → ⊥
 no_fact h e = cc
-
-pub opened_none : (vars : ℕ) (gs : List Given) (fs : List (Option Fact)) → fs ≡ replicate vars None → length fs ≡ vars → AreOpeningTo vars gs 0 fs
-opened_none vars gs fs e w = record {
-  wide = w;
-  given = λ v h at. absurd (no_fact h (sym (none_at vars v) ∙ ap (λ xs. fact_at xs v) (sym e) ∙ at));
-  all = λ i g l is. absurd (omega (arith, l));
-}
-
-pub opened_all : (vars : ℕ) (gs : List Given) (n : ℕ) (fs : List (Option Fact)) → AreOpeningTo vars gs n fs → length gs ≡ n → AreOpening vars gs fs
-opened_all vars gs n fs o e = record {
-  wide = o.wide;
-  given = o.given;
-  all = λ i g is. let l = slice_get_within gs i g is in o.all i g (omega (arith, l, e)) is;
-}
 
 some_given : {a b : Given} → Some a ≡ Some b → a ≡ b
 some_given e = cc

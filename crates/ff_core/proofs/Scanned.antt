@@ -20,9 +20,6 @@ use Rattle.ff_core.specs.Scans.{first_of, more_after, IsFirstMore, AliveTo, Quie
 same_con : {a b : Constraint} → Some a ≡ Some b → a ≡ b
 same_con e = cc
 
-pub nothing_yet : (cons : List Constraint) (fs : List (Option Fact)) → IsScannedTo cons fs 0 None
-nothing_yet cons fs = record { alive = λ c l d. absurd (omega (arith, l)); more_is = λ c con l is. absurd (omega (arith, l)) }
-
 -- a constraint of which some row agrees isn't dead
 not_dead : (cons : List Constraint) (fs : List (Option Fact)) (c : ℕ) (con : Constraint) → slice_get cons c ≡ Some con
     → SomeAgrees con.kind con.terms (Knows (value_at fs)) → IsDeadIn cons fs c → ⊥
@@ -86,10 +83,6 @@ pub scan_next : (cons : List Constraint) (fs : List (Option Fact)) (n : ℕ) (co
 scan_next cons fs n con o Nothing is f d s = scan_quiet cons fs n con o is f s
 scan_next cons fs n con o (Value v t) is f d s = scan_more cons fs n con v t o is f s
 scan_next cons fs n con o Dead is f d s = absurd (d refl)
-
-pub dead_found : (cons : List Constraint) (fs : List (Option Fact)) (n : ℕ) (con : Constraint) (found : Forced) → slice_get cons n ≡ Some con
-    → ForcedIs con.kind con.terms (value_at fs) found → found ≡ Dead → IsDeadIn cons fs n
-dead_found cons fs n con found is f e = record { constraint = con; there = is; none = subst (λ x. ForcedIs con.kind con.terms (value_at fs) x) e f }
 
 pub scan_quiet_all : (cons : List Constraint) (fs : List (Option Fact)) (n : ℕ) → length cons ≤ n → IsScannedTo cons fs n None → AreQuiet cons (value_at fs)
 scan_quiet_all cons fs n l s c con is = let m = slice_get_within cons c con is in s.more_is c con (omega (arith, l, m)) is

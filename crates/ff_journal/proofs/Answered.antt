@@ -162,8 +162,3 @@ impossible_said case budget j n viewer q told some h count begun t =
         (subst (λ x. names_in (entry.Said viewer (length (commands_of viewer j)) (command.Ask q) x) ≡ []) (sym t) (impossible_names case n viewer (length (commands_of viewer j)) q))
         (subst (λ x. Answers case budget j e (outcome.Impossible pins log) q x) (ap (λ k. impossible_reply case k q) (sym same) ∙ sym t)
         (impossible_answers case budget j pins log e q (λ b. let g = begun b in omega (arith, g, c))))
-
-pub impossible_fits : (case : Case) (fs : List (Option Fact)) (n viewer index : ℕ) (q : Question) (told : Reply) → told ≡ impossible_reply case n q
-    → NamesFit case (Some fs) (entry.Said viewer index (command.Ask q) told)
-impossible_fits case fs n viewer index q told t = no_names case fs (entry.Said viewer index (command.Ask q) told)
-    (subst (λ x. names_in (entry.Said viewer index (command.Ask q) x) ≡ []) (sym t) (impossible_names case n viewer index q))

@@ -1,5 +1,5 @@
 -- The givens of an epoch, pair by pair.
-use Rattle.std.proofs.Common.{◌≡◌, ℕ, suc, ◌+◌, ◌<◌, ◌≤◌, ◌==◌, ◌&&◌, ◌||◌, Bool, true, false, ltb, List, [], ◌∷◌, ◌++◌, length, map, take, drop, get_or, cond, sym, refl, ap, ◌∙◌, arith, Option, Some, None, append_assoc, Contains}
+use Rattle.std.proofs.Common.{◌≡◌, ℕ, suc, ◌+◌, ◌<◌, ◌==◌, ◌&&◌, ◌||◌, Bool, true, false, ltb, List, [], ◌∷◌, ◌++◌, length, map, take, drop, get_or, cond, sym, refl, ap, ◌∙◌, arith, Option, Some, None, append_assoc, Contains}
 use Rattle.std.specs.List.{filter, filter_map, cons_option, list_any}
 use Rattle.std.specs.Prelude.{option_map}
 use Rattle.std.proofs.lemmas.Bool.{eqb-true}
@@ -12,14 +12,13 @@ use Rattle.ff_tables.specs.declared.orders.Order.TheVariants.{Below, Above}
 use Rattle.ff_tables.specs.Orders.{turn}
 use Rattle.ff_tables.specs.declared.givens.Given.{Given}
 use Rattle.ff_tables.specs.declared.givens.GivenBy.TheVariants as by
-use Rattle.ff_types.specs.declared.cases.Case.{Case}
 use Rattle.ff_types.specs.Pairs.{AreSorted, number_of, pair_at, in_order}
 use Rattle.ff_types.proofs.SortedPairs.{number_there}
 use Rattle.ff_viewer.specs.declared.commands.Command.TheVariants as command
 use Rattle.ff_journal.specs.declared.entries.Entry.{Entry}
 use Rattle.ff_journal.specs.declared.entries.Entry.TheVariants as entry
-use Rattle.ff_journal.specs.Epochs.{changes, is_change, last_begun, last_of, joined, is_pair, pinned_by, held_by, has_order, viewers_of, is_in_force, in_force_after, pin_of, pins_after, given_of_pin, givens_of}
-use Rattle.ff_journal.specs.Reading.{given_if, givens_on, pair_named, AreTouched}
+use Rattle.ff_journal.specs.Epochs.{changes, is_change, last_of, joined, is_pair, pinned_by, held_by, has_order, viewers_of, is_in_force, in_force_after, pin_of, pins_after, given_of_pin}
+use Rattle.ff_journal.specs.Reading.{givens_on, pair_named, AreTouched}
 
 pins_append : (ps qs : List (ℕ × ℕ)) (made : List Entry) → pins_after (ps ++ qs) made ≡ pins_after ps made ++ pins_after qs made
 pins_append [] qs made = refl
@@ -48,21 +47,8 @@ givens_next starts pairs made n sorted l =
     (one_pair pairs n p (in_force_after made p) (number_there pairs n p sorted (slice_get-get_or pairs n (0, 0) l)))
     ∙ sym (append_assoc starts (filter_map (given_of_pin pairs) (pins_after (take n pairs) made)) (givens_on n (in_force_after made p)))
 
-pub no_givens : (starts : List Given) (pairs : List (ℕ × ℕ)) (made : List Entry) → starts ≡ givens_to starts pairs made 0
-no_givens starts pairs made = sym (append-nil starts)
-
 whole : {X : Type 0} → (xs : List X) → take (length xs) xs ≡ xs
 whole xs = ap (λ t. take (length xs) t) (sym (append-nil xs)) ∙ take-append_seam xs []
-
-pub all_givens : (case : Case) (j : List Entry) (n : ℕ) → n ≡ length case.pairs
-    → givens_to case.starts case.pairs (changes j) n ≡ givens_of case j (last_begun j)
-all_givens case j n e = ap (λ t. case.starts ++ filter_map (given_of_pin case.pairs) (pins_after t (changes j)))
-    (ap (λ m. take m case.pairs) e ∙ whole case.pairs) ∙ ap (λ t. case.starts ++ filter_map (given_of_pin case.pairs) (pins_after case.pairs t)) (sym (whole (changes j)))
-
--- the givens of an epoch are those of the last one begun by a front of the journal
-pub front_givens : (case : Case) (j f : List Entry) (e : ℕ) → e ≤ last_begun j → changes f ≡ take e (changes j)
-    → givens_of case f (last_begun f) ≡ givens_of case j e
-front_givens case j f e l is = ap (λ t. case.starts ++ filter_map (given_of_pin case.pairs) (pins_after case.pairs t)) (whole (changes f) ∙ is)
 
 -- a front with as many changes as the epoch's number has its changes
 pub front_is : (j : List Entry) (i left e : ℕ) → length (changes (take i j)) + left ≡ e → left ≡ 0
@@ -73,13 +59,6 @@ front_is j i left e count z =
     ∙ ap (take e) (sym (filter-append is_change (take i j) (drop i j)) ∙ ap changes (take-append-drop i j))
 
 -- ---- the orders in force on one pair
-
-pub two_givens : (n : ℕ) (below above : Bool)
-    → given_if n Below below ++ given_if n Above above ≡ givens_on n (cond below (Below ∷ cond above (Above ∷ []) []) (cond above (Above ∷ []) []))
-two_givens n true true = refl
-two_givens n true false = refl
-two_givens n false true = refl
-two_givens n false false = refl
 
 -- ---- pairs that no entry names
 

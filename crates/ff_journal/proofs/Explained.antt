@@ -261,23 +261,6 @@ explained_at case gs before fs n h c cons con cites d ps econs ecites sorted rul
     ∙ ap Some (ap (λ xs. get_or xs c d) (sym ecites)) in
     explained case gs before fs n h c con (get_or cites c d) ps sorted rule levels at by there cited are
 
-pub reason_within : (case : Case) (gs : List Given) (fs : List (Option Fact)) (n : ℕ) (h : Fact) (c : ℕ)
-    → MeetsFactRule case.system.vars case.system.constraints gs fs → fact_at fs n ≡ Some h → h.reason ≡ reason.Forced c
-    → c < length case.system.constraints
-reason_within case gs fs n h c rule at by =
-    let st : StandsBy case.system.constraints gs fs n h.value h.level (reason.Forced c) =
-    subst (λ r. StandsBy case.system.constraints gs fs n h.value h.level r) by (rule.stands n h at) in
-    slice_get_within case.system.constraints c st.1.constraint st.1.there
-
--- a fact by a given is of a given variable
-pub given_in_givens : (case : Case) (gs : List Given) (fs : List (Option Fact)) (n : ℕ) (h : Fact) (i : ℕ)
-    → MeetsFactRule case.system.vars case.system.constraints gs fs → fact_at fs n ≡ Some h → h.reason ≡ reason.Given i
-    → IsGivenIn gs n
-given_in_givens case gs fs n h i rule at by =
-    let st : StandsBy case.system.constraints gs fs n h.value h.level (reason.Given i) =
-    subst (λ r. StandsBy case.system.constraints gs fs n h.value h.level r) by (rule.stands n h at) in
-    record { place = i; given = st.1.given; there = st.1.there; of_variable = st.1.variable }
-
 -- the reply by a fact's reason
 pub told_by : (case : Case) (gs : List Given) (before : List Entry) (fs : List (Option Fact)) (n : ℕ) (h : Fact) (w : Why) (o : Option ℕ) → o ≡ Some n
     → fact_at fs n ≡ Some h → IsWhy case gs before (map seen fs) n h.value w → IsWhyReplyBy case gs before fs o (reply.Because w)

@@ -6,7 +6,7 @@ use Rattle.std.proofs.lemmas.List.{take_more, append-nil, length-append}
 use Rattle.std.proofs.lemmas.List.Elements.{filter_map-append}
 use Rattle.ff_tables.specs.declared.orders.Order.{Order}
 use Rattle.ff_journal.specs.declared.entries.Entry.{Entry}
-use Rattle.ff_journal.specs.Epochs.{last_of, joined, is_change, changes, last_begun, pinned_by, held_by}
+use Rattle.ff_journal.specs.Epochs.{last_of, joined, is_change, changes, pinned_by, held_by}
 use Rattle.ff_journal.specs.Publications.{outcome_in, outcomes, published}
 use Rattle.ff_journal.specs.Journals.{command_by, commands_of}
 use Rattle.ff_journal.specs.Reading.{one_if, next_held}
@@ -14,16 +14,6 @@ use Rattle.ff_journal.proofs.Snoc.{changes_same, changes_more, last_more}
 
 pub at_more : (xs : List Entry) (i : ℕ) (x : Entry) → i < length xs → x ≡ get_or xs i x → take (i + 1) xs ≡ take i xs ++ x ∷ []
 at_more xs i x l e = take_more xs i x l ∙ ap (λ y. take i xs ++ y ∷ []) (sym e)
-
-begun_by : (j : List Entry) (e : Entry) (b : Bool) → is_change e ≡ b → last_begun (j ++ e ∷ []) ≡ last_begun j + one_if b
-begun_by j e true h = ap (λ es. length es) (changes_more j e h) ∙ length-append (changes j) (e ∷ [])
-begun_by j e false h = let g : last_begun (j ++ e ∷ []) ≡ last_begun j = ap (λ es. length es) (changes_same j e h) in omega (arith, g)
-
--- the number of epochs begun
-pub begun_next : (xs : List Entry) (i : ℕ) (x : Entry) (n : ℕ) → i < length xs → x ≡ get_or xs i x
-    → n ≡ last_begun (take i xs) → n + one_if (is_change x) ≡ last_begun (take (i + 1) xs)
-begun_next xs i x n l e h =
-    ap (λ k. k + one_if (is_change x)) h ∙ sym (begun_by (take i xs) x (is_change x) refl) ∙ ap (λ t. last_begun t) (sym (at_more xs i x l e))
 
 option_length : {X : Type 0} → (xs : List X) (o : Option X) → length (xs ++ cons_option o []) ≡ length xs + one_if (is_some o)
 option_length xs None = let h : length (xs ++ []) ≡ length xs = ap (λ t. length t) (append-nil xs) in omega (arith, h)

@@ -9,7 +9,7 @@ use Rattle.ff_types.specs.declared.refusals.No.{No}
 use Rattle.ff_types.specs.declared.refusals.No.TheVariants as no
 use Rattle.ff_problem.specs.declared.problems.Problem.{Problem}
 use Rattle.ff_problem.specs.Problems.{IsProblem, WhyNoProblem}
-use Rattle.ff_problem.proofs.FewConstraints.{few_constraints, few_starts}
+use Rattle.ff_problem.proofs.FewInCases.{few_constraints, few_starts}
 use Rattle.ff_solve.specs.declared.summaries.Summary.{Summary}
 use Rattle.ff_solve.specs.Summaries.{IsSummary}
 use Rattle.ff_make.specs.Laws.{IsMade}
@@ -37,7 +37,8 @@ pub few_of : (count : ℕ) (faces : Faces) (folded : Folded) (case : Case) → M
     → (length case.system.constraints < 2 ^ 32) × (length case.starts < 2 ^ 32)
 few_of count faces folded case makes =
     let s = few_starts makes.pattern faces folded case makes.problem in
-    (few_constraints makes.pattern faces folded case makes.problem, omega (arith, s))
+    let c = few_constraints makes.pattern faces folded case makes.problem in
+    (omega (arith, c), omega (arith, s))
 
 pub made_summary : (count budget : ℕ) (faces : Faces) (folded : Folded) (case : Case) → MakesProblem count faces folded case
     → (r : Result Summary NoMemory) → IfOk r (λ x. IsSummary count faces folded case budget x.last x.text) → IfOk r (λ x. IsMadeSolved count budget x.last x.text)

@@ -6,4 +6,4 @@ mod Steps
 pub mod CreaseStarts
 mod Making
 pub mod SamePatterns
-pub mod FewConstraints
+pub mod FewInCases

@@ -17,14 +17,13 @@ use Rattle.ff_journal.specs.declared.entries.Outcome.{Outcome}
 use Rattle.ff_journal.specs.Epochs.{is_change, changes, last_begun, givens_of}
 use Rattle.ff_journal.specs.Publications.{published, outcomes, outcome_in}
 use Rattle.ff_journal.specs.Journals.{IsLegal, IsLegalFor, IsComplete, commands_of, command_by, script_of}
-use Rattle.ff_journal.specs.Waiting.{IsNotPublished}
 use Rattle.ff_journal.proofs.Snoc.{changes_same, changes_more}
 use Rattle.ff_core.specs.declared.events.Step.{Step}
 use Rattle.ff_core.specs.declared.events.Step.TheVariants as step
 use Rattle.ff_core.specs.declared.events.Left.TheVariants as left
 use Rattle.ff_core.specs.States.{State, AreOpening}
 use Rattle.ff_core.specs.Steps.{IsStep, Says, Publishes, WorksOnAfter, WorkNext}
-use Rattle.ff_serve.specs.Reaching.{WorksOnSuch, IsOpened, IsSameButWork, IsQuiet}
+use Rattle.ff_serve.specs.Reaching.{IsOpened, IsSameButWork, IsQuiet}
 use Rattle.ff_serve.specs.Served.{event_of, AllPublished, IsOnePublished, IsAtMostOneBegun, HasMorePublished, IsServed, AreServed, HasCommonRoom, HasRoomFor, commands_in}
 
 -- ---- one entry more
@@ -64,9 +63,6 @@ begun_said xs x false is = inl (ap length (changes_same xs x is))
 
 -- ---- publications
 
-none_work : (w : List (Option Fact)) → None ≡ Some w → ⊥
-none_work w e = let q : None ≡ Some w = e in cc
-
 -- the publication is taken where nothing more is to be deduced
 pub publishes : (case : Case) (old now new : State) (answer : Step) → published old.journal ≡ last_begun old.journal → IsSameButWork old now
     → IsOpened case old → IsQuiet case now → (now.working ≡ None → ⊥) → Publishes case now new answer → IsOnePublished old new
@@ -96,9 +92,6 @@ more_published old new one = record {
   few = (let n = ap length one.appended ∙ length-append old.journal (entry.Published (published old.journal) one.outcome ∷ []) in omega arith);
   budget = one.budget;
 }
-
-pub none_published : (core : State) → HasMorePublished core core
-none_published core = record { commands = λ v. refl; few = omega arith; budget = refl }
 
 -- ---- entries of viewers
 
@@ -231,10 +224,6 @@ legal case budget scripts j is was = record {
   legal = is;
   scripted = λ v. ([], sym (all_commands scripts j was v) ∙ sym (append-nil (commands_of v j)));
 }
-
--- nothing is served at the start
-pub none_served : (scripts : List (List Command)) → (j : List Entry) → ((v : ℕ) → commands_of v j ≡ []) → AreServed scripts 0 0 j
-none_served scripts j none = record { before = λ v l. absurd (omega (arith, l)); here = none 0; after = λ v l. none v }
 
 -- ---- room
 

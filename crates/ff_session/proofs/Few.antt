@@ -1,21 +1,14 @@
--- What was read has vertices, few creases, few pairs, few constraints and few commands.
-use Rattle.std.proofs.Common.{◌≡◌, inl, inr, ℕ, suc, ◌+◌, ◌<◌, ◌≤◌, ◌^◌, Bool, true, false, List, [], ◌∷◌, length, Option, Some, None, IsTrue, if◌then◌else◌, nat_le, codes, option_and_then, refl, ap, sym, ◌∙◌, subst, arith}
-use Rattle.std.specs.List.{filter_map, cons_option, fold}
+-- What was read has vertices and few commands.
+use Rattle.std.proofs.Common.{◌≡◌, ℕ, ◌+◌, ◌<◌, ◌≤◌, ◌^◌, Bool, true, false, List, [], ◌∷◌, length, Option, Some, None, if◌then◌else◌, nat_le, codes, option_and_then, refl, ap, ◌∙◌, subst, arith}
+use Rattle.std.specs.List.{fold}
 use Rattle.std.proofs.lemmas.Bool.{leb-true}
-use Rattle.std.proofs.lemmas.List.FromFn.{length-range_with_len}
 use Rattle.serde_json.specs.Find.{get}
-use Rattle.ff_basics.proofs.Numbers.{at_most_or}
 use Rattle.ff_types.specs.declared.patterns.Pattern.{Pattern}
 use Rattle.ff_types.specs.declared.faces.Faces.{Faces}
 use Rattle.ff_types.specs.declared.faces.Folded.{Folded}
 use Rattle.ff_types.specs.declared.cases.Case.{Case}
-use Rattle.ff_types.specs.declared.limits.TheConstants.{MOST_CONSTRAINTS, MOST_PAIRS}
-use Rattle.ff_types.specs.Faces.{list_before}
-use Rattle.ff_types.specs.Sheets.{sheet_of, edges_of}
-use Rattle.ff_types.specs.Cases.{key, start_of}
-use Rattle.ff_borders.proofs.Witnesses.{witnessed_hold}
-use Rattle.ff_crossings.proofs.Alike.{lists_apart}
 use Rattle.ff_problem.specs.Problems.{IsProblem}
+use Rattle.ff_problem.proofs.FewInCases.{few_pairs, few_constraints, few_starts}
 use Rattle.ff_read.specs.Spelling.{point_of, list_of}
 use Rattle.ff_read.specs.declared.benches.BenchInput.{BenchInput}
 use Rattle.ff_read.specs.Benches.{IsBench, AreFew, total}
@@ -44,49 +37,6 @@ has_vertices bytes input read =
     let three = three_of (option_and_then list_of (get (codes "vertices_coords") read.is.fold)) read.is.keys.vertices read.is.keyed.vertices in
     let same = as_many point_of read.is.keys.vertices input.pattern.points read.is.spelled.points in
     omega (arith, three, same)
-
-short_options : {A B : Type 0} (f : A → Option B) (xs : List A) → length (filter_map f xs) ≤ length xs
-short_options f [] = omega arith
-short_options {A} {B} f (x ∷ xs) = by (f x) (short_options f xs) where
-  by : (o : Option B) → length (filter_map f xs) ≤ length xs → length (cons_option o (filter_map f xs)) ≤ suc (length xs)
-  by None l = omega (arith, l)
-  by (Some y) l = omega (arith, l)
-
--- no more starts than edges
-pub few_starts : (pattern : Pattern) (faces : Faces) (folded : Folded) (case : Case) → IsProblem pattern faces folded case → length case.starts < 2 ^ 21
-few_starts pattern faces folded case is =
-    let l = short_options (start_of (sheet_of pattern faces folded) case.pairs) (edges_of (sheet_of pattern faces folded)) in
-    let e = ap length is.case_is.starts_are in
-    let n = length-range_with_len 0 (length pattern.edges) in
-    let few = pattern.valid.few_edges in
-    omega (arith, l, e, n, few)
-
-pub few_constraints : (pattern : Pattern) (faces : Faces) (folded : Folded) (case : Case) → IsProblem pattern faces folded case → length case.system.constraints ≤ 2 ^ 22
-few_constraints pattern faces folded case is = elim (at_most_or (length case.system.constraints) MOST_CONSTRAINTS) [
-  | inl l ↦ omega (arith, l)
-  | inr l ↦ absurd (is.within.constraints (
-    case.cites,
-    record {
-      apart = λ m n c d k s t e. lists_apart (key c) (key d) (is.case_is.sorted_cites m n c d k s t)
-          (subst (λ x. IsTrue (list_before (key d) x)) (sym e) (subst (λ x. IsTrue (list_before x (key d))) e (is.case_is.sorted_cites m n c d k s t)));
-      each = λ n c t. witnessed_hold is.folds c (is.case_is.witnessed n c t);
-    },
-    omega (arith, l, case.valid.cited),
-  ))
-]
-
-pub few_pairs : (pattern : Pattern) (faces : Faces) (folded : Folded) (case : Case) → IsProblem pattern faces folded case → case.system.vars ≤ 2 ^ 18
-few_pairs pattern faces folded case is = elim (at_most_or (length case.pairs) MOST_PAIRS) [
-  | inl l ↦ omega (arith, l, case.valid.paired)
-  | inr l ↦ absurd (is.within.pairs (
-    case.pairs,
-    record {
-      sorted = is.case_is.sorted_pairs;
-      each = λ n p t. (is.case_is.pairs_are p.0 p.1 (is.case_is.sorted_pairs.rising n p t)).1 (n, t);
-    },
-    l,
-  ))
-]
 
 sums : (n : ℕ) (scripts : List (List Command)) → fold (λ (a : ℕ) (s : List Command). a + length s) n scripts ≡ n + commands_in scripts
 sums n [] = omega arith

@@ -216,9 +216,6 @@ chosen_first : (case : Case) (pages now : List Pages) (i k : ℕ) (c : Chosen) �
 chosen_first case pages now i k c keep is budget gs fs vars are at =
     is budget gs fs vars (keep.all budget gs fs are) (ap (λ ps. slice_get ps i) keep.parts ∙ at)
 
-pub chosen_none : (case : Case) (pages : List Pages) (choice : List ℕ) → AreChosen case pages choice 0 []
-chosen_none case pages choice budget gs fs are = tt
-
 pub chosen_more : (case : Case) (pages now : List Pages) (choice : List ℕ) (i k : ℕ) (solutions more : List (List Order)) (s : List Order) → i < length pages
     → slice_get choice i ≡ Some k → KeepAllPages case pages now → IsChosen case now i k (chosen.Solution s) → more ≡ solutions ++ s ∷ []
     → AreChosen case pages choice i solutions → AreChosen case pages choice (i + 1) more

@@ -1,11 +1,9 @@
 -- All pairs, with a solution of each part.
-use Rattle.std.proofs.Common.{◌≡◌, ◌≢◌, ℕ, zero, suc, ◌+◌, ◌<◌, ◌≤◌, inl, inr, false, cond, List, [], ◌∷◌, ◌++◌, length, map, take, drop, get_or, set, slice_get, sym, refl, ap, ◌∙◌, subst, arith, Option, Some, None, Contains}
-use Rattle.std.proofs.lemmas.Bool.{eq-eqb, ne_eqb}
-use Rattle.std.proofs.lemmas.List.{get_or-set_same, get_or-set_other, length-set, append-nil, take_all}
+use Rattle.std.proofs.Common.{◌≡◌, ℕ, zero, suc, ◌+◌, ◌<◌, ◌≤◌, inl, inr, false, List, [], ◌∷◌, ◌++◌, length, map, take, drop, get_or, slice_get, sym, refl, ap, ◌∙◌, subst, arith, Option, Some, None, Contains}
+use Rattle.std.proofs.lemmas.List.{append-nil, take_all}
 use Rattle.std.proofs.lemmas.List.Elements.{Contains-append_cases}
 use Rattle.std.proofs.lemmas.Option.{slice_get-get_or, slice_get_within, get_or_from_slice_get}
 use Rattle.ff_basics.proofs.Memberships.{by_member, in_map, in_filter, no_member}
-use Rattle.ff_basics.proofs.Numbers.{same_or}
 use Rattle.ff_tables.specs.declared.orders.Order.{Order}
 use Rattle.ff_tables.specs.declared.orders.Order.TheVariants.{Below, Above}
 use Rattle.ff_tables.specs.declared.terms.Constraint.{Constraint}
@@ -52,38 +50,6 @@ drop_whole (suc n) (x ∷ xs) l = drop_whole n xs (omega (arith, l))
 pub written : {X : Type 0} (n : ℕ) (new old : List X) → length new ≡ n → length old ≤ n → take n (new ++ drop (length new) old) ≡ new
 written n new old e l =
     ap (λ xs. take n (new ++ xs)) (drop_whole (length new) old (omega (arith, e, l))) ∙ ap (λ xs. take n xs) (append-nil new) ∙ take_all n new (omega (arith, e))
-
-joint_next : (value : ℕ → Option Order) (vars : List ℕ) (sol : List Order) (u : ℕ) (s : Order) (values : List (Option Order)) → u < length values
-    → AreValues (joint value vars sol) values → AreValues (joint value (u ∷ vars) (s ∷ sol)) (set values u (Some s))
-joint_next value vars sol u s values l are = record {
-  each = λ v m. elim (same_or v u) [
-    | inr e ↦ ap (λ k. get_or (set values u (Some s)) k None) e ∙ get_or-set_same values u (Some s) None l
-        ∙ ap (λ b. cond b (Some s) (joint value vars sol v)) (sym (eq-eqb u v (sym e)))
-    | inl d ↦ get_or-set_other values u v (Some s) None d ∙ are.each v (let n = length-set values u (Some s) in omega (arith, m, n))
-        ∙ ap (λ b. cond b (Some s) (joint value vars sol v)) (sym (ne_eqb u v (λ e. d (sym e))))
-  ];
-}
-
-pub fill_first : (value : ℕ → Option Order) (vars : List ℕ) (sol : List Order) (n : ℕ) (values : List (Option Order)) → length vars ≤ n → length sol ≤ n
-    → AreValues value values → AreValues (joint value (drop n vars) (drop n sol)) values
-fill_first value vars sol n values l m are =
-    subst (λ xs. AreValues (joint value xs (drop n sol)) values) (sym (drop_whole n vars l))
-    (subst (λ ys. AreValues (joint value [] ys) values) (sym (drop_whole n sol m)) are)
-
-pub fill_next : (value : ℕ → Option Order) (vars : List ℕ) (sol : List Order) (at n u : ℕ) (s : Order) (values : List (Option Order)) → u < length values
-    → slice_get vars at ≡ Some u → slice_get sol at ≡ Some s → suc at ≡ n
-    → AreValues (joint value (drop n vars) (drop n sol)) values → AreValues (joint value (drop at vars) (drop at sol)) (set values u (Some s))
-fill_next value vars sol at n u s values l v w e are =
-    subst (λ xs. AreValues (joint value xs (drop at sol)) (set values u (Some s))) (sym (drop_at vars at u v))
-    (subst (λ ys. AreValues (joint value (u ∷ drop (suc at) vars) ys) (set values u (Some s))) (sym (drop_at sol at s w))
-    (joint_next value (drop (suc at) vars) (drop (suc at) sol) u s values l
-    (subst (λ k. AreValues (joint value (drop k vars) (drop k sol)) values) (sym e) are)))
-
-pub all_first : (value : ℕ → Option Order) (parts : List (List ℕ)) (sols : List (List Order)) (n : ℕ) (values : List (Option Order)) → length parts ≤ n → length sols ≤ n
-    → AreValues value values → AreValues (value_of value (drop n parts) (drop n sols)) values
-all_first value parts sols n values l m are =
-    subst (λ xs. AreValues (value_of value xs (drop n sols)) values) (sym (drop_whole n parts l))
-    (subst (λ ys. AreValues (value_of value [] ys) values) (sym (drop_whole n sols m)) are)
 
 pub all_next : (value : ℕ → Option Order) (parts : List (List ℕ)) (sols : List (List Order)) (at n : ℕ) (vars : List ℕ) (sol : List Order) (values more : List (Option Order))
     → slice_get parts at ≡ Some vars → slice_get sols at ≡ Some sol → suc at ≡ n
@@ -237,11 +203,6 @@ stop_told case board budget parts choice _ many h = (many, h)
 pub stack_told : (case : Case) (board : List (Option Order)) (budget : ℕ) (parts : List (List ℕ)) (choice : List ℕ) (sols : List (List Order)) (told : Reply)
     → HaveSolutions case board budget parts choice sols → told ≡ reply.Stack (stack_of board parts sols) → IsStackOf case board budget parts choice told
 stack_told case board budget parts choice sols told have is = subst (λ t. IsStackOf case board budget parts choice t) (sym is) (sols, have, refl)
-
-pub count_told : (case : Case) (fs : List (Option Fact)) (pages : List Pages) (choice : List ℕ) (count : ℕ) → length choice ≢ length pages → count ≡ length pages
-    → IsStackTold case fs pages choice (reply.Count count)
-count_told case fs pages choice count differ is budget gs are =
-    let l = parts_long pages in ((λ e. differ (e ∙ l)), is ∙ sym l)
 
 pub stack_answers : (case : Case) (budget : ℕ) (j : List Entry) (fs : List (Option Fact)) (pages : List Pages) (choice : List ℕ) (told : Reply)
     → AreKept case budget j fs pages → IsStackTold case fs pages choice told → AnswersLast case budget j (ask.Stack choice) told

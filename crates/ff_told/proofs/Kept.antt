@@ -31,7 +31,7 @@ use Rattle.ff_journal.specs.Pages.{IsBeyond, IsWithin, HasNone, IsPast, IsPage a
 use Rattle.ff_journal.specs.Replies.{AreBoardParts, IsPageReplyOf, IsPageReplyAt}
 use Rattle.ff_journal.specs.Answering.{is_board, shows_board}
 use Rattle.ff_journal.proofs.LastPublished.{no_board_last}
-use Rattle.ff_told.specs.Paged.{ArePagesOf, AreAllPages, parts_of, ShowsBoard, AreLaid, HavePages, KeepAllPages, IsPageAt, IsPageToldBy, IsPageToldAt, AnswersLast, reply_of}
+use Rattle.ff_told.specs.Paged.{ArePagesOf, AreAllPages, parts_of, AreLaid, HavePages, KeepAllPages, IsPageAt, IsPageToldBy, IsPageToldAt, AnswersLast, reply_of}
 use Rattle.ff_told.proofs.Refuted.{are_givens, say_pins}
 
 same_pages : {a b : Pages} → Some a ≡ Some b → a ≡ b
@@ -146,25 +146,6 @@ pages_stand case ps i p at have =
           (subst (λ f. MeetsFactRule case.system.vars case.system.constraints have.givens f) (sym own.facts) have.rule),
     )
 
-parts_none : (ps : List Pages) (n : ℕ) → length ps ≤ n → slice_get (parts_of ps) n ≡ None
-parts_none [] zero l = refl
-parts_none [] (suc n) l = refl
-parts_none (p ∷ ps) zero l = absurd (omega (arith, l))
-parts_none (p ∷ ps) (suc n) l = parts_none ps n (omega (arith, l))
-
-parts_some : (ps : List Pages) (n : ℕ) → n < length ps → (vars : List ℕ) × (slice_get (parts_of ps) n ≡ Some vars)
-parts_some [] n l = absurd (omega (arith, l))
-parts_some (p ∷ ps) zero l = (p.part.vars, refl)
-parts_some (p ∷ ps) (suc n) l = parts_some ps n (omega (arith, l))
-
-pub no_part_told : (case : Case) (ps : List Pages) (n k : ℕ) → length ps ≤ n → IsPageToldAt case ps n k reply.NoPart
-no_part_told case ps n k l = subst (λ o. IsPageToldBy case ps n k o reply.NoPart) (sym (parts_none ps n l)) refl
-
-pub part_told : (case : Case) (ps : List Pages) (n k : ℕ) (a : PageAnswer) (told : Reply) → n < length ps → told ≡ reply_of a
-    → IsPageAt case ps n k a → IsPageToldAt case ps n k told
-part_told case ps n k a told l is at =
-    let r = parts_some ps n l in subst (λ o. IsPageToldBy case ps n k o told) (sym r.1) (a, is, at)
-
 -- ---- the reply to `page`
 
 past_few : {X : Type 0} (n m : ℕ) (xs : List X) → take (suc m) (drop n xs) ≡ [] → length xs ≤ n
@@ -224,9 +205,6 @@ page_said case budget j e board fs pages n k told sorted value are t = by (slice
 -- the last published epoch is one
 pub one_last : (j : List Entry) (d e : ℕ) (o p : Outcome) → IsLast j d o → IsLast j e p → (d ≡ e) × (o ≡ p)
 one_last j d e o p l m = let a = l.counted in let b = m.counted in (omega (arith, a, b), same_outcome (sym l.is ∙ m.is))
-
-pub board_some : (j : List Entry) → ShowsBoard j → 0 < published j
-board_some j (e, board, l) = let c = l.counted in omega (arith, c)
 
 -- the kept pages, of the shown facts of a board
 pub record AreKept (case : Case) (budget : ℕ) (j : List Entry) (fs : List (Option Fact)) (pages : List Pages) : Type 0 where

@@ -1,14 +1,9 @@
 -- The report of what bytes come to says which stackings keep the creases.
-use Rattle.std.proofs.Common.{inl, inr, ℕ, suc, ◌<◌, ◌≤◌, ◌^◌, List, [], ◌∷◌, length, Option, Some, None, IsTrue, Result, Ok, Err, IfOk, ap, sym, subst, arith}
-use Rattle.std.specs.List.{filter_map, cons_option}
-use Rattle.std.proofs.lemmas.List.FromFn.{length-range_with_len}
-use Rattle.ff_basics.proofs.Numbers.{at_most_or}
+use Rattle.std.proofs.Common.{ℕ, List, Result, Ok, Err, IfOk}
 use Rattle.ff_types.specs.declared.faces.Faces.{Faces}
 use Rattle.ff_types.specs.declared.faces.Folded.{Folded}
 use Rattle.ff_types.specs.declared.cases.Case.{Case}
-use Rattle.ff_types.specs.Faces.{list_before}
-use Rattle.ff_types.specs.Sheets.{sheet_of, edges_of}
-use Rattle.ff_types.specs.Cases.{key, start_of}
+use Rattle.ff_types.specs.Sheets.{sheet_of}
 use Rattle.ff_types.proofs.FoldedEdges.{ring_below}
 use Rattle.ff_report.specs.declared.lines.Last.{Last}
 use Rattle.ff_tables.specs.declared.memory.NoMemory.{NoMemory}
@@ -18,9 +13,6 @@ use Rattle.ff_solve.specs.Written.{report_text}
 use Rattle.ff_solve.proofs.Stacked.{starts_are_stackings, start_clash_has_none}
 use Rattle.ff_propagate.specs.Facts.{value_at}
 use Rattle.ff_parts.specs.Lists.{vars_of}
-use Rattle.ff_borders.proofs.Witnesses.{witnessed_hold}
-use Rattle.ff_crossings.proofs.Alike.{lists_apart}
-use Rattle.ff_types.specs.declared.limits.TheConstants.{MOST_CONSTRAINTS}
 use Rattle.ff_report.specs.Heads.{FitFolding}
 use Rattle.ff_top.specs.Solving.{ReadsProblem, IsSolved}
 
@@ -48,34 +40,3 @@ fits bytes faces folded case reads = record {
   flags = reads.problem.folds.folding.as_many_flags;
   points = λ f i l m. ring_below reads.problem.folds f l i 0 m;
 }
-
--- ---- numbers within 32 bits
-
-short_options : {A B : Type 0} (f : A → Option B) (xs : List A) → length (filter_map f xs) ≤ length xs
-short_options f [] = omega arith
-short_options {A} {B} f (x ∷ xs) = by (f x) (short_options f xs) where
-  by : (o : Option B) → length (filter_map f xs) ≤ length xs → length (cons_option o (filter_map f xs)) ≤ suc (length xs)
-  by None l = omega (arith, l)
-  by (Some y) l = omega (arith, l)
-
-pub few_starts : (bytes : List ℕ) (faces : Faces) (folded : Folded) (case : Case) → ReadsProblem bytes faces folded case → length case.starts < 2 ^ 32
-few_starts bytes faces folded case reads =
-    let l = short_options (start_of (sheet_of reads.pattern faces folded) case.pairs) (edges_of (sheet_of reads.pattern faces folded)) in
-    let e = ap length reads.problem.case_is.starts_are in
-    let n = length-range_with_len 0 (length reads.pattern.edges) in
-    let few = reads.pattern.valid.few_edges in
-    omega (arith, l, e, n, few)
-
-pub few_constraints : (bytes : List ℕ) (faces : Faces) (folded : Folded) (case : Case) → ReadsProblem bytes faces folded case → length case.system.constraints < 2 ^ 32
-few_constraints bytes faces folded case reads = elim (at_most_or (length case.system.constraints) MOST_CONSTRAINTS) [
-  | inl l ↦ omega (arith, l)
-  | inr l ↦ absurd (reads.problem.within.constraints (
-    case.cites,
-    record {
-      apart = λ m n c d k s t e. lists_apart (key c) (key d) (reads.problem.case_is.sorted_cites m n c d k s t)
-          (subst (λ x. IsTrue (list_before (key d) x)) (sym e) (subst (λ x. IsTrue (list_before x (key d))) e (reads.problem.case_is.sorted_cites m n c d k s t)));
-      each = λ n c t. witnessed_hold reads.problem.folds c (reads.problem.case_is.witnessed n c t);
-    },
-    omega (arith, l, case.valid.cited),
-  ))
-]

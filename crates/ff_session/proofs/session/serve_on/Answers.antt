@@ -1,5 +1,6 @@
 use Rattle.std.proofs.Common.{rules, arith}
-use Rattle.ff_session.proofs.Few.{few_starts, few_constraints, few_commands, few_viewers}
+use Rattle.ff_problem.proofs.FewInCases.{few_starts, few_constraints}
+use Rattle.ff_session.proofs.Few.{few_commands, few_viewers}
 use Rattle.ff_session.proofs.Made.{made}
 use Rattle.ff_session.proofs.session.serve_on.Goals as goal
 
