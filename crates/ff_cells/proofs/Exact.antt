@@ -2,7 +2,7 @@
 use Rattle.std.proofs.Common.{ℕ, zero, suc, ◌≡◌, ◌≢◌, ◌⊎◌, ◌↔◌, inl, inr, ◌+◌, ◌-◌, ◌<◌, List, [], ◌∷◌, ◌++◌, length, get_or, arith, refl, sym, ap, subst, ◌∙◌, pos, ◌<ℤ◌, ◌≤ℤ◌}
 use Rattle.std.specs.List.{Contains}
 use Rattle.std.proofs.lemmas.List.{get_or_default}
-use Rattle.std.proofs.lemmas.List.Elements.{Contains-append_left, Contains-append_right, Contains-append_cases}
+use Rattle.std.proofs.lemmas.List.Elements.{Contains-append_left, Contains-append_right}
 use Rattle.ff_whole.proofs.Signs.{linear}
 use Rattle.ff_whole.specs.Places.{height}
 use Rattle.ff_whole.specs.declared.lines.Line.{Line}
@@ -17,25 +17,6 @@ use Rattle.ff_cells.proofs.Cuts.{inside_of_open, open_of_inside}
 use Rattle.ff_cells.proofs.Corners.{middle_cut, witness}
 use Rattle.ff_cells.proofs.Stacks as stacks
 use Rattle.ff_cells.proofs.Tidy.{open_of_after, after_of_open}
-
--- each cell is one of a gap, and each gap that has no cell has none
-pub emitted_sound : (v : List Bar) (left right : Place) (n : ℕ) (cs : List Cell) → IsEmitted v left right n cs
-    → (c : Cell) → Contains cs c → (m : ℕ) × IsCellAt v left right m c
-emitted_sound v left right zero cs e c (k, lt, q) = let l : length cs ≡ 0 = ap length e in
-    absurd (omega arith)
-emitted_sound v left right (suc n) cs (inl (e, none)) c h = emitted_sound v left right n cs e c h
-emitted_sound v left right (suc n) cs (inr (before, last, is, e, cell)) c h =
-    elim (Contains-append_cases before (last ∷ []) c (subst (λ zs. Contains zs c) is h)) [
-      | inl m ↦ emitted_sound v left right n before e c m
-      | inr m ↦ (n, subst (IsCellAt v left right n) (only m) cell)
-    ]
-  where
-    only : Contains (last ∷ []) c → last ≡ c
-    only (zero, lt, q) = q
-    only (suc k, lt, q) = absurd (far lt)
-      where
-        far : suc k < length (last ∷ []) → ⊥
-        far lt = omega arith
 
 pub emitted_complete : (v : List Bar) (left right : Place) (n : ℕ) (cs : List Cell)
     → IsEmitted v left right n cs → (m : ℕ) → m < n → HasNone v left right m

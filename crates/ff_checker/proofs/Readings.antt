@@ -69,16 +69,6 @@ one_more kind.TortillaTortilla zero l = refl
 one_more kind.TortillaTortilla (suc zero) l = refl
 one_more kind.TortillaTortilla (suc (suc j)) l = absurd (omega (arith, l))
 
-pub all_plain : (k : Kind) → take (arity k) (plain_terms k) ≡ plain_terms k
-all_plain kind.TacoTaco = refl
-all_plain kind.Transitivity = refl
-all_plain kind.TacoTortilla = refl
-all_plain kind.TortillaTortilla = refl
-
-pub plain_small : (k : Kind) (j : ℕ) → j < length (plain_terms k) → (term_at (plain_terms k) j).var < 6
-plain_small k j l = let w : j < arity k = omega (arith, l, plain_length k) in
-    omega (arith, w, few_terms k, ap (λ t. t.var) (plain_at k j w))
-
 -- ---- one term
 
 above_told : (a b : Bool) → value_of a b ≡ Some Above → IsTrue a
@@ -201,9 +191,6 @@ module _ (d : Declared) (held : List Claim) (values : List (Option Order)) (coun
         never_turned s (sym (fits j (turn true s) (omega (arith, l, counted)) there) ∙ only k row has (fits_agrees row (fits_other row fits)))
 
 -- ---- reading them
-
-none_read : (j : ℕ) (P : Type 0) → j < 0 → P
-none_read j P l = absurd (omega (arith, l))
 
 pub read_more : (d : Declared) (held : List Claim) (j : ℕ) (values : List (Option Order)) (both a b : Bool) (v : Option Order) → AreRead d held j values both → j < 6
     → a ≡ holds held (claim_at d j Above) → b ≡ holds held (claim_at d j Below) → v ≡ value_of a b

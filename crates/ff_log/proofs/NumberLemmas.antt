@@ -1,6 +1,6 @@
 -- What is read is written so, and what is written is read.
 use Rattle.std.proofs.Common.{◌≡◌, ◌≢◌, ◌∙◌, ◌+◌, ◌*◌, ◌/◌, ◌%◌, ◌<◌, ◌≤◌, ◌^◌, ◌&&◌, ℕ, ℤ, pos, negsuc, Bool, cond, true, false, not, zero, suc, refl, sym, ap, ap₂, subst, arith, List, [], ◌∷◌, ◌++◌, length, slice_index, drop, Option, Some, None, Result, Ok, Err, true≢false, length-append, ne_eqb}
-use Rattle.std.proofs.lemmas.Bool.{eqb-true, le-leb, ltb-true, lt-ltb, le-ltb}
+use Rattle.std.proofs.lemmas.Bool.{eqb-true, le-leb, ltb-true, lt-ltb}
 use Rattle.std.proofs.lemmas.Bool.Decides.{nat_tests}
 use Rattle.std.proofs.lemmas.Str.{digit_value_digit}
 use Rattle.std.proofs.lemmas.Fmt.{decimal_digit, decimal_step_wide, decimal_by_steps_wide}
@@ -172,14 +172,6 @@ number_read bits bound value t r wide d p e lt =
     let digits = (both (list_all is_ascii_digit t) (has_no_zero t) d).0 in
     let same : value ≡ digits_value 10 t = q.1 ∙ ap (digits_value 10) (digits_plain t digits) in
     ap Some same ∙ sym (ap₂ (λ a b. cond (a && b) (Some (digits_value 10 t)) None) d (lt-ltb (digits_value 10 t) bound (omega arith)))
-
-pub number_above : {E : Type 0} (bits bound value : ℕ) (t : List ℕ) (r : Result ℕ E) → is_decimal t ≡ true → ParsesUnsigned bits 10 t r → r ≡ Ok value
-    → bound ≤ value → None ≡ number_of bound t
-number_above bits bound value t r d p e le =
-    let q = subst (ParsesUnsigned bits 10 t) e p in
-    let digits = (both (list_all is_ascii_digit t) (has_no_zero t) d).0 in
-    let same : value ≡ digits_value 10 t = q.1 ∙ ap (digits_value 10) (digits_plain t digits) in
-    sym (ap₂ (λ a b. cond (a && b) (Some (digits_value 10 t)) None) d (le-ltb (digits_value 10 t) bound (omega arith)))
 
 pub number_refused : {E : Type 0} (bits bound : ℕ) (t : List ℕ) (r : Result ℕ E) (e : E) → bound ≤ 2 ^ bits → is_decimal t ≡ true → ParsesUnsigned bits 10 t r → r ≡ Err e → None ≡ number_of bound t
 number_refused bits bound t r e wide d p is = go (nat_lt (digits_value 10 t) bound) refl

@@ -6,7 +6,7 @@ use Rattle.ff_types.specs.declared.refusals.Key.{Key}
 use Rattle.ff_types.specs.declared.refusals.No.{No}
 use Rattle.ff_types.specs.declared.refusals.No.TheVariants as no
 use Rattle.ff_types.specs.declared.refusals.Refusal.{Refusal}
-use Rattle.ff_types.specs.declared.refusals.Refusal.TheVariants.{TooLong, NotJson, BadKey, BadVertex, FarVertex, BadEdge, BadMark, SamePoint, Crossing, Loose, Rim, Pinch, Reflex, Enclosed, Apart, Parity, Inconsistent, Oversized, TooMany, BadScript}
+use Rattle.ff_types.specs.declared.refusals.Refusal.TheVariants.{TooLong, NotJson, BadKey, BadVertex, FarVertex, BadEdge, BadMark, SamePoint, Crossing, Loose, Rim, Pinch, Reflex, Enclosed, Apart, Parity, Inconsistent, Oversized, TooMany, BadScript, BadFaces, BadOrder, BadChoice, BadNear, BadLine, OffGrid, Overlap}
 use Rattle.ff_read.specs.Spelling.{Keys, IsKeyed, AreSpelled}
 use Rattle.ff_read.specs.Refused.{IsNoKey, RefusesFold, RefusesItems, RefusesKey}
 use Rattle.ff_read.proofs.Outcomes.{one_value}
@@ -43,6 +43,13 @@ items_refused d k keyed (Inconsistent v) h = here d k keyed (Inconsistent v) h
 items_refused d k keyed (Oversized v) h = here d k keyed (Oversized v) h
 items_refused d k keyed (TooMany w n) h = here d k keyed (TooMany w n) h
 items_refused d k keyed (BadScript w n) h = here d k keyed (BadScript w n) h
+items_refused d k keyed (BadFaces i) h = here d k keyed (BadFaces i) h
+items_refused d k keyed (BadOrder i) h = here d k keyed (BadOrder i) h
+items_refused d k keyed (BadChoice i) h = here d k keyed (BadChoice i) h
+items_refused d k keyed (BadNear i) h = here d k keyed (BadNear i) h
+items_refused d k keyed (BadLine i) h = here d k keyed (BadLine i) h
+items_refused d k keyed (OffGrid i j) h = here d k keyed (OffGrid i j) h
+items_refused d k keyed (Overlap i j) h = here d k keyed (Overlap i j) h
 
 -- a call that reads the keys alone names one of them
 abbrev pub KeyRefused : Data → No → Type 0
@@ -69,6 +76,13 @@ key_refused d (no.Refused (Inconsistent v)) h = absurd h
 key_refused d (no.Refused (Oversized v)) h = absurd h
 key_refused d (no.Refused (TooMany w n)) h = absurd h
 key_refused d (no.Refused (BadScript w n)) h = absurd h
+key_refused d (no.Refused (BadFaces i)) h = absurd h
+key_refused d (no.Refused (BadOrder i)) h = absurd h
+key_refused d (no.Refused (BadChoice i)) h = absurd h
+key_refused d (no.Refused (BadNear i)) h = absurd h
+key_refused d (no.Refused (BadLine i)) h = absurd h
+key_refused d (no.Refused (OffGrid i j)) h = absurd h
+key_refused d (no.Refused (Overlap i j)) h = absurd h
 key_refused d no.NoMemory h = absurd h
 
 -- the same lists spell one pattern

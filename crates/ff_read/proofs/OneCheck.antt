@@ -10,7 +10,7 @@ use Rattle.ff_types.specs.declared.refusals.Key.TheVariants as key
 use Rattle.ff_types.specs.declared.refusals.No.{No}
 use Rattle.ff_types.specs.declared.refusals.No.TheVariants as no
 use Rattle.ff_types.specs.declared.refusals.Refusal.{Refusal}
-use Rattle.ff_types.specs.declared.refusals.Refusal.TheVariants.{TooLong, NotJson, BadKey, BadVertex, FarVertex, BadEdge, BadMark, SamePoint, Crossing, Loose, Rim, Pinch, Reflex, Enclosed, Apart, Parity, Inconsistent, Oversized, TooMany, BadScript}
+use Rattle.ff_types.specs.declared.refusals.Refusal.TheVariants.{TooLong, NotJson, BadKey, BadVertex, FarVertex, BadEdge, BadMark, SamePoint, Crossing, Loose, Rim, Pinch, Reflex, Enclosed, Apart, Parity, Inconsistent, Oversized, TooMany, BadScript, BadFaces, BadOrder, BadChoice, BadNear, BadLine, OffGrid, Overlap}
 use Rattle.ff_types.specs.declared.refusals.What.TheVariants as what
 use Rattle.ff_read.specs.declared.checks.CheckInput.{CheckInput}
 use Rattle.ff_read.specs.declared.checks.TheConstants.{MOST_PINS}
@@ -103,6 +103,11 @@ key_out d key.VerticesCoords h = inr (h.0, h.1, inl (key.VerticesCoords, h.2, re
 key_out d key.EdgesVertices h = inr (h.0, h.1, inl (key.EdgesVertices, h.2, refl))
 key_out d key.EdgesAssignment h = inr (h.0, h.1, inl (key.EdgesAssignment, h.2, refl))
 key_out d key.Viewers h = inr (h.0, h.1, inl (key.Viewers, h.2, refl))
+key_out d key.FacesVertices h = inr (h.0, h.1, inl (key.FacesVertices, h.2, refl))
+key_out d key.FaceOrders h = inr (h.0, h.1, inl (key.FaceOrders, h.2, refl))
+key_out d key.Choice h = inr (h.0, h.1, inl (key.Choice, h.2, refl))
+key_out d key.Near h = inr (h.0, h.1, inl (key.Near, h.2, refl))
+key_out d key.Lines h = inr (h.0, h.1, inl (key.Lines, h.2, refl))
 
 check_out : (d : Data) (r : Refusal) → RefusesCheck d r → Out d (Some r)
 unfolding Items
@@ -136,7 +141,15 @@ check_out d (TooMany what.Cells n) h = items_of_check d (TooMany what.Cells n) h
 check_out d (TooMany what.Entries n) h = items_of_check d (TooMany what.Entries n) h
 check_out d (TooMany what.Pairs n) h = items_of_check d (TooMany what.Pairs n) h
 check_out d (TooMany what.Constraints n) h = items_of_check d (TooMany what.Constraints n) h
+check_out d (TooMany what.Lines n) h = items_of_check d (TooMany what.Lines n) h
 check_out d (BadScript w n) h = items_of_check d (BadScript w n) h
+check_out d (BadFaces i) h = items_of_check d (BadFaces i) h
+check_out d (BadOrder i) h = items_of_check d (BadOrder i) h
+check_out d (BadChoice i) h = items_of_check d (BadChoice i) h
+check_out d (BadNear i) h = items_of_check d (BadNear i) h
+check_out d (BadLine i) h = items_of_check d (BadLine i) h
+check_out d (OffGrid i j) h = items_of_check d (OffGrid i j) h
+check_out d (Overlap i j) h = items_of_check d (Overlap i j) h
 
 -- ---- there is an outcome
 
@@ -170,7 +183,15 @@ refused_items d k ps ls m (TooMany what.Cells n) h = (k, ps, ls, m, h)
 refused_items d k ps ls m (TooMany what.Entries n) h = (k, ps, ls, m, h)
 refused_items d k ps ls m (TooMany what.Pairs n) h = (k, ps, ls, m, h)
 refused_items d k ps ls m (TooMany what.Constraints n) h = (k, ps, ls, m, h)
+refused_items d k ps ls m (TooMany what.Lines n) h = (k, ps, ls, m, h)
 refused_items d k ps ls m (BadScript w n) h = (k, ps, ls, m, h)
+refused_items d k ps ls m (BadFaces i) h = (k, ps, ls, m, h)
+refused_items d k ps ls m (BadOrder i) h = (k, ps, ls, m, h)
+refused_items d k ps ls m (BadChoice i) h = (k, ps, ls, m, h)
+refused_items d k ps ls m (BadNear i) h = (k, ps, ls, m, h)
+refused_items d k ps ls m (BadLine i) h = (k, ps, ls, m, h)
+refused_items d k ps ls m (OffGrid i j) h = (k, ps, ls, m, h)
+refused_items d k ps ls m (Overlap i j) h = (k, ps, ls, m, h)
 
 -- so is a refusal of the crease pattern, where its keys are there
 pub refused_fold : (d fold : Data) (k : Keys) (ps : List Pin) (ls : List (List ℕ)) → HasMembers d k ps ls → IsKeyed fold k → (r : Refusal) → RefusesFold fold r → RefusesCheck d r
@@ -185,6 +206,11 @@ refused_member d fold f key.Fold h = absurd h
 refused_member d fold f key.Pins h = absurd h
 refused_member d fold f key.Log h = absurd h
 refused_member d fold f key.Viewers h = absurd h
+refused_member d fold f key.FacesVertices h = absurd h
+refused_member d fold f key.FaceOrders h = absurd h
+refused_member d fold f key.Choice h = absurd h
+refused_member d fold f key.Near h = absurd h
+refused_member d fold f key.Lines h = absurd h
 
 -- why a call gave none of the crease pattern is why there is no input
 pub no_key : (d fold : Data) → fold_in d ≡ Some fold → (n : No) → IsNoKey fold n → IsNoCheckOf d n
@@ -244,6 +270,13 @@ of_bytes bytes (Inconsistent v) h = inr h
 of_bytes bytes (Oversized v) h = inr h
 of_bytes bytes (TooMany w n) h = inr h
 of_bytes bytes (BadScript w n) h = inr h
+of_bytes bytes (BadFaces i) h = inr h
+of_bytes bytes (BadOrder i) h = inr h
+of_bytes bytes (BadChoice i) h = inr h
+of_bytes bytes (BadNear i) h = inr h
+of_bytes bytes (BadLine i) h = inr h
+of_bytes bytes (OffGrid i j) h = inr h
+of_bytes bytes (Overlap i j) h = inr h
 
 one_of_bytes : (bytes : List ℕ) (r s : Refusal) → Bytes bytes r → Bytes bytes s → r ≡ s
 unfolding Bytes
@@ -282,6 +315,13 @@ refused_by bytes d e (Inconsistent v) h refused = refused (Inconsistent v) (d, e
 refused_by bytes d e (Oversized v) h refused = refused (Oversized v) (d, e, h)
 refused_by bytes d e (TooMany w n) h refused = refused (TooMany w n) (d, e, h)
 refused_by bytes d e (BadScript w n) h refused = refused (BadScript w n) (d, e, h)
+refused_by bytes d e (BadFaces i) h refused = refused (BadFaces i) (d, e, h)
+refused_by bytes d e (BadOrder i) h refused = refused (BadOrder i) (d, e, h)
+refused_by bytes d e (BadChoice i) h refused = refused (BadChoice i) (d, e, h)
+refused_by bytes d e (BadNear i) h refused = refused (BadNear i) (d, e, h)
+refused_by bytes d e (BadLine i) h refused = refused (BadLine i) (d, e, h)
+refused_by bytes d e (OffGrid i j) h refused = refused (OffGrid i j) (d, e, h)
+refused_by bytes d e (Overlap i j) h refused = refused (Overlap i j) (d, e, h)
 
 bytes_out : (bytes : List ℕ) (o : Option Data) → object_of bytes ≡ o → ((a : CheckInput) → IsCheck bytes a → ⊥) → ((r : Refusal) → RefusesInput bytes r → ⊥) → ⊥
 bytes_out bytes None e none refused = refused NotJson e

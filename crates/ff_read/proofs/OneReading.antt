@@ -7,9 +7,9 @@ use Rattle.serde_json.specs.Find.{get}
 use Rattle.ff_types.specs.declared.limits.TheConstants.{MOST_VERTICES, MOST_EDGES}
 use Rattle.ff_types.specs.declared.patterns.Pattern.{Pattern}
 use Rattle.ff_types.specs.declared.refusals.Key.{Key}
-use Rattle.ff_types.specs.declared.refusals.Key.TheVariants.{Fold, VerticesCoords, EdgesVertices, EdgesAssignment, Pins, Log, Viewers}
+use Rattle.ff_types.specs.declared.refusals.Key.TheVariants.{Fold, VerticesCoords, EdgesVertices, EdgesAssignment, Pins, Log, Viewers, FacesVertices, FaceOrders, Choice, Near, Lines}
 use Rattle.ff_types.specs.declared.refusals.Refusal.{Refusal}
-use Rattle.ff_types.specs.declared.refusals.Refusal.TheVariants.{TooLong, NotJson, BadKey, BadVertex, FarVertex, BadEdge, BadMark, SamePoint, Crossing, Loose, Rim, Pinch, Reflex, Enclosed, Apart, Parity, Inconsistent, Oversized, TooMany, BadScript}
+use Rattle.ff_types.specs.declared.refusals.Refusal.TheVariants.{TooLong, NotJson, BadKey, BadVertex, FarVertex, BadEdge, BadMark, SamePoint, Crossing, Loose, Rim, Pinch, Reflex, Enclosed, Apart, Parity, Inconsistent, Oversized, TooMany, BadScript, BadFaces, BadOrder, BadChoice, BadNear, BadLine, OffGrid, Overlap}
 use Rattle.ff_types.specs.declared.refusals.What.TheVariants.{Vertices, Edges}
 use Rattle.ff_types.specs.Patterns.{edge_at}
 use Rattle.ff_read.specs.Spelling.{Keys, IsKeyed, AreSpelled, Spells, object_of, vertices_in, edges_in, marks_in, optional_marks, list_of}
@@ -85,6 +85,11 @@ one_key d Fold b g h = absurd g
 one_key d Pins b g h = absurd g
 one_key d Log b g h = absurd g
 one_key d Viewers b g h = absurd g
+one_key d FacesVertices b g h = absurd g
+one_key d FaceOrders b g h = absurd g
+one_key d Choice b g h = absurd g
+one_key d Near b g h = absurd g
+one_key d Lines b g h = absurd g
 one_key d a b g h = absurd h
 
 pub key_or_keys : (d : Data) (key : Key) (k : Keys) → RefusesKey d key → IsKeyed d k → ⊥
@@ -155,6 +160,13 @@ cases d (Inconsistent v) h = inr h
 cases d (Oversized v) h = inr h
 cases d (TooMany w n) h = inr h
 cases d (BadScript w n) h = inr h
+cases d (BadFaces i) h = inr h
+cases d (BadOrder i) h = inr h
+cases d (BadChoice i) h = inr h
+cases d (BadNear i) h = inr h
+cases d (BadLine i) h = inr h
+cases d (OffGrid i j) h = inr h
+cases d (Overlap i j) h = inr h
 
 one_case : (d : Data) (r s : Refusal) → Cases d r → Cases d s → r ≡ s
 unfolding Cases Items
@@ -213,6 +225,13 @@ of_bytes bytes (Inconsistent v) h = inr h
 of_bytes bytes (Oversized v) h = inr h
 of_bytes bytes (TooMany w n) h = inr h
 of_bytes bytes (BadScript w n) h = inr h
+of_bytes bytes (BadFaces i) h = inr h
+of_bytes bytes (BadOrder i) h = inr h
+of_bytes bytes (BadChoice i) h = inr h
+of_bytes bytes (BadNear i) h = inr h
+of_bytes bytes (BadLine i) h = inr h
+of_bytes bytes (OffGrid i j) h = inr h
+of_bytes bytes (Overlap i j) h = inr h
 
 one_of_bytes : (bytes : List ℕ) (r s : Refusal) → Bytes bytes r → Bytes bytes s → r ≡ s
 unfolding Bytes
@@ -251,6 +270,13 @@ refused_by bytes d e (Inconsistent v) h refused = refused (Inconsistent v) (d, e
 refused_by bytes d e (Oversized v) h refused = refused (Oversized v) (d, e, h)
 refused_by bytes d e (TooMany w n) h refused = refused (TooMany w n) (d, e, h)
 refused_by bytes d e (BadScript w n) h refused = refused (BadScript w n) (d, e, h)
+refused_by bytes d e (BadFaces i) h refused = refused (BadFaces i) (d, e, h)
+refused_by bytes d e (BadOrder i) h refused = refused (BadOrder i) (d, e, h)
+refused_by bytes d e (BadChoice i) h refused = refused (BadChoice i) (d, e, h)
+refused_by bytes d e (BadNear i) h refused = refused (BadNear i) (d, e, h)
+refused_by bytes d e (BadLine i) h refused = refused (BadLine i) (d, e, h)
+refused_by bytes d e (OffGrid i j) h refused = refused (OffGrid i j) (d, e, h)
+refused_by bytes d e (Overlap i j) h refused = refused (Overlap i j) (d, e, h)
 
 bytes_out : (bytes : List ℕ) (o : Option Data) → object_of bytes ≡ o → ((p : Pattern) → IsReadAs bytes p → ⊥) → ((r : Refusal) → RefusesBytes bytes r → ⊥) → ⊥
 bytes_out bytes None e pattern refused = refused NotJson e

@@ -1,5 +1,5 @@
 -- Edges whose numbers, sorted, rise are different edges.
-use Rattle.std.proofs.Common.{◌≡◌, ◌∙◌, ℕ, ◌+◌, ◌-◌, ◌<◌, List, length, get_or, map, false, arith, sym, subst, ◌⊎◌, inl, inr}
+use Rattle.std.proofs.Common.{◌≡◌, ◌∙◌, ℕ, ◌-◌, ◌<◌, List, length, get_or, map, false, arith, sym, subst, ◌⊎◌, inl, inr}
 use lib.Dec.{eqb}
 use Rattle.std.proofs.lemmas.Bool.{eqb-false}
 use Rattle.std.proofs.lemmas.List.{get_or_default, get_or-map, length-map}
@@ -8,7 +8,6 @@ use Rattle.std.specs.List.Sorted.{IsPermutation}
 use Rattle.std.proofs.lemmas.List.Sorted.{IsPermutation-sym}
 use Rattle.std.proofs.lemmas.Map.Keys.{apart_from_distinct, IsDistinct-from_apart, IsDistinct-IsPermutation}
 use Rattle.std.proofs.lemmas.Bool.Decides.{nat_tests}
-use Rattle.ff_basics.proofs.Numbers.{last_or}
 use Rattle.ff_types.specs.declared.patterns.EdgeEnds.{EdgeEnds}
 use Rattle.ff_types.specs.Patterns.{edge_at}
 use Rattle.ff_read.specs.Refused.{IsSameEdge}
@@ -19,14 +18,6 @@ use Rattle.ff_read.proofs.SeenEdges.{key_same}
 
 pub rising_start : (keys : List ℕ) → AreRising keys 1
 rising_start keys i j h l = absurd (omega (arith, h, l))
-
-pub rising_more : (keys : List ℕ) (n : ℕ) → 0 < n → AreRising keys n → get_or keys (n - 1) 0 < get_or keys n 0
-    → AreRising keys (n + 1)
-rising_more keys n one up next i j h l = by (last_or j n l)
-  where
-    last : (i ≡ n - 1) ⊎ (i < n - 1) → get_or keys i 0 < get_or keys n 0
-    last (inl e) = subst (λ k. get_or keys k 0 < get_or keys n 0) (sym e) next
-    last (inr k) = let u = up i (n - 1) k (omega (arith, one)) in omega (arith, u, next)
 
     either : i < n → (i ≡ n - 1) ⊎ (i < n - 1)
     either k = grind (arith, k)

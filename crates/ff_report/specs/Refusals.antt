@@ -2,9 +2,9 @@
 use Rattle.std.specs.Prelude.{ℕ, List, [], ◌++◌, codes}
 use Rattle.std.specs.Fmt.{decimal}
 use Rattle.ff_types.specs.declared.refusals.Refusal.{Refusal}
-use Rattle.ff_types.specs.declared.refusals.Refusal.TheVariants.{TooLong, NotJson, BadKey, BadVertex, FarVertex, BadEdge, BadMark, SamePoint, Crossing, Loose, Rim, Pinch, Reflex, Enclosed, Apart, Parity, Inconsistent, Oversized, TooMany, BadScript}
+use Rattle.ff_types.specs.declared.refusals.Refusal.TheVariants.{TooLong, NotJson, BadKey, BadVertex, FarVertex, BadEdge, BadMark, SamePoint, Crossing, Loose, Rim, Pinch, Reflex, Enclosed, Apart, Parity, Inconsistent, Oversized, TooMany, BadScript, BadFaces, BadOrder, BadChoice, BadNear, BadLine, OffGrid, Overlap}
 use Rattle.ff_types.specs.declared.refusals.Key.{Key}
-use Rattle.ff_types.specs.declared.refusals.Key.TheVariants.{Fold, VerticesCoords, EdgesVertices, EdgesAssignment, Pins, Log, Viewers}
+use Rattle.ff_types.specs.declared.refusals.Key.TheVariants.{Fold, VerticesCoords, EdgesVertices, EdgesAssignment, Pins, Log, Viewers, FacesVertices, FaceOrders, Choice, Near, Lines}
 use Rattle.ff_types.specs.declared.refusals.What.{What}
 use Rattle.ff_types.specs.declared.refusals.What.TheVariants as what
 use Rattle.ff_types.specs.declared.refusals.What.TheVariants.{Vertices, Edges, Commands, Faces, Cells, Entries, Pairs, Constraints}
@@ -18,6 +18,11 @@ key_name EdgesAssignment = codes "edges_assignment"
 key_name Pins = codes "pins"
 key_name Log = codes "log"
 key_name Viewers = codes "viewers"
+key_name FacesVertices = codes "faces_vertices"
+key_name FaceOrders = codes "faceOrders"
+key_name Choice = codes "choice"
+key_name Near = codes "near"
+key_name Lines = codes "lines"
 
 -- the word for what there is too much of
 abbrev pub what_name : What → List ℕ
@@ -31,6 +36,7 @@ what_name Cells = codes "cells"
 what_name Entries = codes "entries"
 what_name Pairs = codes "pairs"
 what_name Constraints = codes "constraints"
+what_name what.Lines = codes "lines"
 
 -- its number and its name
 abbrev pub refusal_name : Refusal → List ℕ
@@ -54,6 +60,13 @@ refusal_name (Inconsistent v) = codes "17 inconsistent"
 refusal_name (Oversized v) = codes "18 oversized"
 refusal_name (TooMany w n) = codes "19 too many"
 refusal_name (BadScript viewer line) = codes "20 bad script"
+refusal_name (BadFaces item) = codes "21 bad faces"
+refusal_name (BadOrder item) = codes "22 bad order"
+refusal_name (BadChoice part) = codes "23 bad choice"
+refusal_name (BadNear item) = codes "24 bad near"
+refusal_name (BadLine line) = codes "25 bad line"
+refusal_name (OffGrid line line2) = codes "26 off grid"
+refusal_name (Overlap line line2) = codes "27 overlap"
 
 -- the text after a space
 abbrev pub spaced : List ℕ → List ℕ
@@ -67,6 +80,8 @@ refusal_place (BadKey key) = spaced (key_name key)
 refusal_place (TooMany w limit) = spaced (what_name w) ++ spaced (decimal limit)
 refusal_place (Crossing e e2) = spaced (decimal e) ++ spaced (decimal e2)
 refusal_place (BadScript viewer line) = spaced (decimal viewer) ++ spaced (decimal line)
+refusal_place (OffGrid line line2) = spaced (decimal line) ++ spaced (decimal line2)
+refusal_place (Overlap line line2) = spaced (decimal line) ++ spaced (decimal line2)
 refusal_place (BadVertex v) = spaced (decimal v)
 refusal_place (FarVertex v) = spaced (decimal v)
 refusal_place (BadEdge e) = spaced (decimal e)
@@ -81,6 +96,11 @@ refusal_place (Apart face) = spaced (decimal face)
 refusal_place (Parity e) = spaced (decimal e)
 refusal_place (Inconsistent v) = spaced (decimal v)
 refusal_place (Oversized v) = spaced (decimal v)
+refusal_place (BadFaces item) = spaced (decimal item)
+refusal_place (BadOrder item) = spaced (decimal item)
+refusal_place (BadChoice part) = spaced (decimal part)
+refusal_place (BadNear item) = spaced (decimal item)
+refusal_place (BadLine line) = spaced (decimal line)
 
 -- the line of a refusal
 abbrev pub refusal_line : Refusal → List ℕ

@@ -18,6 +18,11 @@ fn name_of_key(key: Key) -> &'static str
         Key::Pins => "pins",
         Key::Log => "log",
         Key::Viewers => "viewers",
+        Key::FacesVertices => "faces_vertices",
+        Key::FaceOrders => "faceOrders",
+        Key::Choice => "choice",
+        Key::Near => "near",
+        Key::Lines => "lines",
     }
 }
 
@@ -35,6 +40,7 @@ fn name_of_what(what: What) -> &'static str
         What::Entries => "entries",
         What::Pairs => "pairs",
         What::Constraints => "constraints",
+        What::Lines => "lines",
     }
 }
 
@@ -63,6 +69,13 @@ fn name_of_refusal(refusal: Refusal) -> &'static str
         Refusal::Oversized { .. } => "18 oversized",
         Refusal::TooMany { .. } => "19 too many",
         Refusal::BadScript { .. } => "20 bad script",
+        Refusal::BadFaces { .. } => "21 bad faces",
+        Refusal::BadOrder { .. } => "22 bad order",
+        Refusal::BadChoice { .. } => "23 bad choice",
+        Refusal::BadNear { .. } => "24 bad near",
+        Refusal::BadLine { .. } => "25 bad line",
+        Refusal::OffGrid { .. } => "26 off grid",
+        Refusal::Overlap { .. } => "27 overlap",
     }
 }
 
@@ -88,6 +101,9 @@ fn push_place(text: &mut String, refusal: Refusal) -> Result<(), AllocError>
         Refusal::TooMany { what, limit } => write!(text, " {} {limit}", name_of_what(what)),
         Refusal::Crossing { e, e2 } => push_two(text, e, e2),
         Refusal::BadScript { viewer, line } => push_two(text, viewer, line),
+        Refusal::OffGrid { line, line2 } | Refusal::Overlap { line, line2 } => push_two(
+            text, line, line2,
+        ),
         Refusal::BadVertex { v }
         | Refusal::FarVertex { v }
         | Refusal::SamePoint { v }
@@ -102,6 +118,10 @@ fn push_place(text: &mut String, refusal: Refusal) -> Result<(), AllocError>
         | Refusal::Rim { e }
         | Refusal::Parity { e } => push_number(text, e),
         Refusal::Apart { face } => push_number(text, face),
+        Refusal::BadFaces { item } | Refusal::BadOrder { item } | Refusal::BadNear { item } =>
+            push_number(text, item),
+        Refusal::BadChoice { part } => push_number(text, part),
+        Refusal::BadLine { line } => push_number(text, line),
     }
 }
 

@@ -82,11 +82,6 @@ longer_copy part old new from con more is = record {
 abbrev pub AreTerms : List ℕ → List ℕ → List Term → List Term → ℕ → Type 0
 AreTerms part names from own n = (j : ℕ) → j < n → IsCopiedTerm part names (term_at from j) (term_at own j)
 
-term_in : (ts : List Term) (t : Term) (j : ℕ) → j < length ts → term_at (ts ++ t ∷ []) j ≡ term_at ts j
-term_in [] t j l = absurd (omega (arith, l))
-term_in (u ∷ ts) t zero l = refl
-term_in (u ∷ ts) t (suc j) l = term_in ts t j (omega (arith, l))
-
 con_in : (cons : List Constraint) (con : Constraint) (k : ℕ) → k < length cons → slice_get (cons ++ con ∷ []) k ≡ slice_get cons k
 con_in [] con k l = absurd (omega (arith, l))
 con_in (c ∷ cons) con zero l = refl

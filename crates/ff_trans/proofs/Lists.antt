@@ -22,9 +22,6 @@ pair_there pairs n l = slice_get-get_or pairs n (0, 0) l
 first_of : {a b c d : ℕ} → ◌≡◌ {A = ℕ × ℕ} (a, b) (c, d) → a ≡ c
 first_of e = ap (λ p. p.0) e
 
-second_of : {a b c d : ℕ} → ◌≡◌ {A = ℕ × ℕ} (a, b) (c, d) → b ≡ d
-second_of e = ap (λ p. p.1) e
-
 module _ (cells : List Cell) (pairs : List (ℕ × ℕ)) where
   abbrev Listed_to : ℕ → ℕ → List Listed → Type 0
   Listed_to n k list = IsListedTo cells pairs n k list

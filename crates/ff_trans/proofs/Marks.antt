@@ -8,7 +8,7 @@ use Rattle.std.specs.List.Sorted.{IsStrictlyIncreasing}
 use Rattle.std.proofs.lemmas.List.Kept.{AllPairs-from_increasing}
 use Rattle.std.proofs.lemmas.Option.{same_Some, slice_get_within}
 use Rattle.ff_basics.proofs.Numbers.{last_or}
-use Rattle.ff_trans.specs.Rows.{HasFace, AreNumbered, HoldBoth, row_at, IsClear, IsPlaceAbove, IsMarked, IsMarkedAbove, IsReach, AreSameFrom, IsFirstOf, IsRowTo, IsFirst, IsRow}
+use Rattle.ff_trans.specs.Rows.{HasFace, AreNumbered, HoldBoth, row_at, IsPlaceAbove, IsMarked, IsMarkedAbove, IsReach, AreSameFrom, IsFirstOf, IsRowTo, IsFirst, IsRow}
 
 apart : {A : Type 0} (o : Option A) (x : A) → o ≡ None → o ≡ Some x → ⊥
 apart o x e f = cc
@@ -21,9 +21,6 @@ pub member_at : (xs : List ℕ) (f j : ℕ) → j < length xs → slice_index xs
 member_at xs f j l e = (j, l, get_or_default xs j f 0 l ∙ e)
 
 -- ---- the faces of one cell
-
-pub marked_none : (faces : List ℕ) (from cell : ℕ) (row : List (Option ℕ)) → IsMarked faces from from cell row row
-marked_none faces from cell row = record { long = refl; kept = λ k x e. e; marked = λ j m l. absurd (omega (arith, m, l)); only = λ k e. inl e }
 
 pub first_or : (a b : ℕ) → a ≤ b → (a + 1 ≤ b) ⊎ (b ≡ a)
 first_or a b l = grind (arith, l)
@@ -66,10 +63,6 @@ place_above faces up h p from l le e high = record { low = low; high = high } wh
     | inr b ↦ (let q = ap (slice_index faces) b in omega (arith, q, le))
   ]
 
--- all of them are
-pub all_above : (faces : List ℕ) (h from : ℕ) → from ≡ 0 → ((j : ℕ) → from ≤ j → j < length faces → h < slice_index faces j) → IsPlaceAbove faces h from
-all_above faces h from e high = record { low = λ j m. absurd (omega (arith, e, m)); high = high }
-
 -- so it is with one more
 pub above_more : (faces : List ℕ) (h to from : ℕ) → to + 1 ≡ from → h < slice_index faces to → ((j : ℕ) → from ≤ j → j < length faces → h < slice_index faces j) → (j : ℕ) → to ≤ j → j < length faces → h < slice_index faces j
 above_more faces h to from next a b j g l = elim (first_or to j g) [
@@ -87,17 +80,11 @@ marked_below faces from n cell past old new below m k le = by (row_at old k) ref
     | inr s ↦ (let b = below s.1.0 s.1.2 in let i = s.1.3 in absurd (omega (arith, b, i, le)))
   ]
 
-pub same_later : (a b : ℕ) (old mid new : List (Option ℕ)) → AreSameFrom a old mid → AreSameFrom b mid new → (c : ℕ) → a ≤ c → b ≤ c → AreSameFrom c old new
-same_later a b old mid new f g c l m k le = g k (omega (arith, m, le)) ∙ f k (omega (arith, l, le))
-
 pub reach_more : (old new : List (Option ℕ)) (reach past next : ℕ) → length new ≡ length old → IsReach old reach → past ≤ length old → AreSameFrom past old new → reach ≤ next → past ≤ next → next ≤ length old
     → IsReach new next
 reach_more old new reach past next long r few same a b c = record { within = omega (arith, long, c); none = λ k l. same k (omega (arith, b, l)) ∙ r.none k (omega (arith, a, l)) }
 
 -- ---- cell by cell
-
-pub row_clear : (cells : List Cell) (list : List ℕ) (h : ℕ) (row : List (Option ℕ)) → IsClear row → IsRowTo cells list 0 h (length row) row
-row_clear cells list h row clear = record { long = refl; each = λ k a l. subst (IsFirstOf cells list 0 k) (sym (clear k)) (λ x m. absurd (omega (arith, m))); low = λ k l. clear k }
 
 module _ (cells : List Cell) (list : List ℕ) (h w : ℕ) (of : AreNumbered cells list) where
   next_some : (n k y : ℕ) → n < length list → IsFirstOf cells list n k (Some y) → IsFirstOf cells list (n + 1) k (Some y)

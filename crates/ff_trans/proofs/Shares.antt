@@ -59,12 +59,6 @@ put_less faces to from cell f old mid new up next l is below a e = record {
 
 -- ---- cell by cell
 
-pub share_none : (cells : List Cell) (list : List ℕ) (f w : ℕ) (lists : List (List ℕ)) → length lists ≡ w → ((k : ℕ) → k < w → list_at lists k ≡ []) → AreSharedTo cells list 0 f w lists
-share_none cells list f w lists long empty = record {
-  long = long;
-  each = λ h a l. subst (AreAmong cells list 0 h) (sym (empty h l)) (record { rising = λ x y m n. absurd (omega (arith, n)); each = λ x m. absurd (omega (arith, m)); all = λ y m. absurd (omega (arith, m)) });
-}
-
 module _ (cells : List Cell) (list : List ℕ) (of : AreNumbered cells list) (n : ℕ) (within : n < length list) where
   module _ (h : ℕ) (some : List ℕ) (are : AreAmong cells list n h some) where
     abbrev i : ℕ

@@ -12,6 +12,11 @@ pub enum Key {
     Pins,
     Log,
     Viewers,
+    FacesVertices,
+    FaceOrders,
+    Choice,
+    Near,
+    Lines,
 }
 
 /// What there can be too many of.
@@ -27,10 +32,11 @@ pub enum What {
     Entries,
     Pairs,
     Constraints,
+    Lines,
 }
 
-/// Why an input is refused: the first reason in the order in which they are tried, with the least vertex, edge or face
-/// at which it comes. All numbers count from 0.
+/// Why an input is refused: the first reason in the order in which they are tried, with the least vertex, edge,
+/// face, item, part or line at which it comes. All numbers count from 0.
 #[derive(Clone, Copy, Debug, PartialEq, Eq)]
 pub enum Refusal {
     /// More bytes come than the limit.
@@ -73,6 +79,21 @@ pub enum Refusal {
     TooMany { what: What, limit: u64 },
     /// A command isn't of the grammar.
     BadScript { viewer: u32, line: u32 },
+    /// The given faces aren't the faces of the drawing, each once: the first item that is none or an earlier one again, else
+    /// the number of items.
+    BadFaces { item: u32 },
+    /// An item of `faceOrders` isn't two different faces and one of -1, 0 and 1.
+    BadOrder { item: u32 },
+    /// A part has no number, or none of its solutions has the number that is given; or numbers are left over after the parts.
+    BadChoice { part: u32 },
+    /// An item of `near` is on faces that don't overlap, or on those of an earlier item.
+    BadNear { item: u32 },
+    /// An item of `lines` isn't four whole numbers below `POINT_SIZE` in size and a letter, or its ends are one point.
+    BadLine { line: u32 },
+    /// Two lines have exactly one common point, and it isn't whole.
+    OffGrid { line: u32, line2: u32 },
+    /// Two lines of different letters share a segment.
+    Overlap { line: u32, line2: u32 },
 }
 
 /// Why there is no answer: a refusal, or want of memory.

@@ -27,13 +27,6 @@ pub record AreTested (line : Line) (places : List Place) (n : ℕ) (some : Bool)
   pub left : IsTrue some → (k : ℕ) × (k < n) × (pos 0 <ℤ height line (place_at places k))
   pub all : some ≡ false → (k : ℕ) → k < n → pos 0 <ℤ height line (place_at places k) → ⊥
 
-pub none_tested : (line : Line) (places : List Place) → AreTested line places 0 false
-none_tested line places = record {
-  none = λ k l. absurd (omega (arith, l));
-  left = λ t. absurd (false≢true t);
-  all = λ t k l h. absurd (omega (arith, l));
-}
-
 pub one_tested : (line : Line) (places : List Place) (n : ℕ) (some left : Bool) → AreTested line places n some
     → (height line (place_at places n) <ℤ pos 0 → ⊥) → IsTrue left ↔ (pos 0 <ℤ height line (place_at places n)) → AreTested line places (n + 1) (some || left)
 one_tested line places n some left t not_right is = record {
