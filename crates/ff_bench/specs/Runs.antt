@@ -32,6 +32,7 @@ pub record AreNewWorkers (b : BenchView) (workers : List WorkerView) : Type 0 wh
 abbrev pub ArePasses : BenchView → List PassView → Type 0
 ArePasses b passes = (k : ℕ) (p : PassView) → slice_get passes k ≡ Some p → IsPassOf b p
 
+-- all of them are workers of this bench
 abbrev pub AreWorkers : BenchView → List WorkerView → Type 0
 AreWorkers b workers = (k : ℕ) (w : WorkerView) → slice_get workers k ≡ Some w → IsWorkerOf b w
 
@@ -58,12 +59,15 @@ pub record IsPlayed (b : BenchView) (scripts : List (List Command)) (k : ℕ) (p
   pub entered : ℕ
   pub said : commands_of k p.seen ≡ take entered (script_of scripts k)
 
+-- each pass is ready for its script
 abbrev pub AllReady : BenchView → List (List Command) → List PassView → Type 0
 AllReady b scripts ps = (length ps ≤ length scripts) × ((k : ℕ) (p : PassView) → k < length ps → IsReady b scripts k (slice_index_or ps k p))
 
+-- each pass has played its script
 abbrev pub AllPlayed : BenchView → List (List Command) → List PassView → Type 0
 AllPlayed b scripts ps = (k : ℕ) (p : PassView) → k < length ps → IsPlayed b scripts k (slice_index_or ps k p)
 
+-- all of them are workers of this bench, by their places in the list
 abbrev pub AllWork : BenchView → List WorkerView → Type 0
 AllWork b ws = (k : ℕ) (w : WorkerView) → k < length ws → IsWorkerOf b (slice_index_or ws k w)
 

@@ -54,6 +54,7 @@ LentTells base first new lent.Published = (published first.journal ≤ last_begu
 LentTells base first new (lent.Board loan) = (published first.journal ≤ last_begun first.journal) × (new ≡ first.journal)
     × (loan.epoch ≡ published first.journal) × IsOpeningOf base.case first.journal loan.epoch loan.board.opening
 
+-- a seat got the value behind the door, and what it took tells of it
 abbrev pub Took : BaseView → ℕ → List Entry → List Entry → Lent → Type 0
 Took base number old new l = (first : DeskView) × IsGot base number old first × LentTells base first new l
 

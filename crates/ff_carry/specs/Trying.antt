@@ -8,6 +8,7 @@ use Rattle.ff_tables.specs.Orders.{term_at}
 use Rattle.ff_propagate.specs.declared.facts.Fact.{Fact}
 use Rattle.ff_propagate.specs.Facts.{fact_at}
 
+-- the opposite order
 abbrev pub other_of : Order → Order
 other_of Below = Above
 other_of Above = Below
@@ -17,6 +18,7 @@ abbrev pub value_below : ℕ → Option Fact → Option Order
 value_below k None = None
 value_below k (Some h) = if nat_lt h.level k then Some h.value else None
 
+-- the values of the facts below a level, with the tried order at one variable
 abbrev pub tried_at : List (Option Fact) → ℕ → ℕ → Order → ℕ → Option Order
 tried_at fs k v s u = if u == v then Some s else value_below k (fact_at fs u)
 

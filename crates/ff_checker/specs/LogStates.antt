@@ -23,6 +23,7 @@ pub record IsWithin (side : ℕ) (c : Claim) : Type 0 where
 abbrev pub AreFlags : ℕ → List Bool → List Claim → Type 0
 AreFlags side flags list = (c : Claim) → IsWithin side c → slice_index_or flags (place_of side c) false ≡ holds list c
 
+-- all that holds is on faces below the side of the table
 abbrev pub AllWithin : ℕ → List Claim → Type 0
 AllWithin side list = (c : Claim) → IsTrue (holds list c) → IsWithin side c
 
@@ -49,14 +50,17 @@ pub record IsFitting (side : ℕ) (d : Declared) : Type 0 where
   pub first : (j : ℕ) → j < length d.terms → (pair_at d.terms j).0 < side
   pub second : (j : ℕ) → j < length d.terms → (pair_at d.terms j).1 < side
 
+-- all that is declared is on faces below the side of the table
 abbrev pub AllFitting : ℕ → List Declared → Type 0
 AllFitting side ds = (k : ℕ) (d : Declared) → slice_get ds k ≡ Some d → IsFitting side d
 
+-- what was declared fits, what holds stands in the table, and the open branches lie in its list one after the other
 pub record IsProgress (b : Progress) : Type 0 where
   pub fitting : AllFitting b.held.side b.declared.items
   pub held : IsHeld b.held
   pub opened : AreOpened b.held.side (length b.held.list.items) (reverse b.branches.items)
 
+-- the branch that was opened when so much of the list held
 abbrev pub branch_of : List Claim → Opened → Branch
 branch_of list o = record { tried = o.tried; before = take o.since list }
 

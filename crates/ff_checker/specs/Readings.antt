@@ -16,6 +16,7 @@ use Rattle.ff_log.specs.Logs.{claim_at, holds, Agrees}
 abbrev pub plain : ℕ → Term
 plain j = record { var = j; flipped = false }
 
+-- the terms of a constraint on variables of its own, none of them flipped
 abbrev pub plain_terms : Kind → List Term
 plain_terms kind.TacoTaco = plain 0 ∷ plain 1 ∷ plain 2 ∷ plain 3 ∷ plain 4 ∷ plain 5 ∷ []
 plain_terms kind.Transitivity = plain 0 ∷ plain 1 ∷ plain 2 ∷ []
@@ -28,6 +29,7 @@ value_of true false = Some Above
 value_of false true = Some Below
 value_of _ _ = None
 
+-- the known value of a variable, none past the end
 abbrev pub known_in : List (Option Order) → ℕ → Option Order
 known_in values j = slice_index_or values j None
 

@@ -43,15 +43,18 @@ pub record IsFirstBad (ground : Ground) (lines : List LogLine) (n : ℕ) (why : 
   pub reached : Reaches ground start (take n lines) state
   pub stops : Stops ground state (slice_get lines n) why
 
+-- the verdict on the lines: they close, or this is the first that is not allowed, and why
 abbrev pub IsVerdict : Ground → List LogLine → Verdict → Type 0
 IsVerdict ground lines Accepted = Closes ground lines
 IsVerdict ground lines (Refused n why) = IsFirstBad ground lines n why
 
 -- ---- parts of a line's test
 
+-- the k-th declared constraint forces the claim
 abbrev pub IsForced : State → ℕ → Claim → Type 0
 IsForced s k c = (d : Declared) × (slice_get s.declared k ≡ Some d) × ForcesClaim d s.held c
 
+-- no row of the k-th declared constraint agrees with what holds
 abbrev pub HasNoneLeft : State → ℕ → Type 0
 HasNoneLeft s k = (d : Declared) × (slice_get s.declared k ≡ Some d) × IsDead d s.held
 

@@ -13,6 +13,7 @@ use Rattle.ff_core.specs.declared.scanning.Scanned.{Scanned}
 use Rattle.ff_core.specs.declared.scanning.Scanned.TheVariants as scanned
 use Rattle.ff_core.specs.Steps.{HaveDead, ForcesMore}
 
+-- the number that was found, else this one
 abbrev pub first_of : Option ℕ → ℕ → Option ℕ
 first_of (Some d) c = Some d
 first_of None c = Some c
@@ -29,6 +30,7 @@ pub record IsFirstMore (cons : List Constraint) (fs : List (Option Fact)) (c : �
   pub forces : ForcesMore cons fs c
   pub first : (d : ℕ) → d < c → ForcesMore cons fs d → ⊥
 
+-- what a scan of all constraints answers
 abbrev pub IsScanned : List Constraint → List (Option Fact) → Scanned → Type 0
 IsScanned cons fs scanned.Quiet = AreQuiet cons (value_at fs)
 IsScanned cons fs (scanned.Dead c) = IsDeadIn cons fs c
@@ -38,13 +40,16 @@ IsScanned cons fs (scanned.More c) = IsFirstMore cons fs c
 abbrev pub AliveTo : List Constraint → List (Option Fact) → ℕ → Type 0
 AliveTo cons fs n = (c : ℕ) → c < n → IsDeadIn cons fs c → ⊥
 
+-- none of the first n constraints forces anything
 abbrev pub QuietTo : List Constraint → List (Option Fact) → ℕ → Type 0
 QuietTo cons fs n = (c : ℕ) (con : Constraint) → c < n → slice_get cons c ≡ Some con → ForcedIs con.kind con.terms (value_at fs) Nothing
 
+-- the first of the first n constraints that forces more, if there is one
 abbrev pub MoreTo : List Constraint → List (Option Fact) → ℕ → Option ℕ → Type 0
 MoreTo cons fs n None = QuietTo cons fs n
 MoreTo cons fs n (Some c) = (c < n) × ForcesMore cons fs c × ((d : ℕ) → d < c → ForcesMore cons fs d → ⊥)
 
+-- what a scan has found in the first n constraints
 pub record IsScannedTo (cons : List Constraint) (fs : List (Option Fact)) (n : ℕ) (more : Option ℕ) : Type 0 where
   pub alive : AliveTo cons fs n
   pub more_is : MoreTo cons fs n more

@@ -31,6 +31,7 @@ abbrev pub WorksOn : Case → List Entry → Option (List (Option Fact)) → Typ
 WorksOn case journal None = published journal ≡ last_begun journal + 1
 WorksOn case journal (Some fs) = (published journal ≤ last_begun journal) × AreFactsOf case journal (published journal) fs
 
+-- what is shown are facts of the last publication, and nothing before the first
 abbrev pub ShowsLast : Case → List Entry → Option (List (Option Fact)) → Type 0
 ShowsLast case journal None = published journal ≡ 0
 ShowsLast case journal (Some fs) = (e : ℕ) × (last : Outcome) × IsLast journal e last × AreShown case journal e last fs

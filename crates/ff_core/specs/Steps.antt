@@ -44,12 +44,14 @@ DeducesIn vars cons fs v h new (step.Left left.NotForced) = (fact_at fs v ≡ No
     × (v < vars → CanStand cons fs v h → ⊥) × (new ≡ fs)
 DeducesIn vars cons fs v h new _ = ⊥
 
+-- how a fact is added to the facts that are worked on, if there are any
 abbrev pub DeducesFrom : Case → State → Option (List (Option Fact)) → ℕ → Fact → State → Step → Type 0
 DeducesFrom case old None v h new answer = (answer ≡ step.Left left.NoEpoch) × (new ≡ old)
 DeducesFrom case old (Some fs) v h new answer = (more : List (Option Fact))
     × DeducesIn case.system.vars case.system.constraints fs v h more answer
     × (new ≡ record old { working = Some more })
 
+-- how a fact is added to the facts that are worked on
 abbrev pub Deduces : Case → State → ℕ → Fact → State → Step → Type 0
 Deduces case old v h new answer = DeducesFrom case old old.working v h new answer
 
@@ -60,6 +62,7 @@ abbrev pub HaveContradiction : List Given → Type 0
 HaveContradiction gs = (i : ℕ) × (j : ℕ) × (g : Given) × (h : Given) × (slice_get gs i ≡ Some g)
     × (slice_get gs j ≡ Some h) × Contradict g h
 
+-- some constraint is dead
 abbrev pub HaveDead : List Constraint → List (Option Fact) → Type 0
 HaveDead cons fs = (c : ℕ) × IsDeadIn cons fs c
 
@@ -79,6 +82,7 @@ pub record IsNotClosed (cons : List Constraint) (gs : List Given) (fs : List (Op
   pub forces : ForcesMore cons fs c
   pub first : (d : ℕ) → d < c → ForcesMore cons fs d → ⊥
 
+-- some constraint shows that the facts are not closed
 abbrev pub IsNotClosedAny : List Constraint → List Given → List (Option Fact) → Type 0
 IsNotClosedAny cons gs fs = (c : ℕ) × IsNotClosed cons gs fs c
 
@@ -87,6 +91,7 @@ abbrev pub WorkNext : Case → List Entry → ℕ → Option (List (Option Fact)
 WorkNext case journal e None = last_begun journal < e
 WorkNext case journal e (Some fs) = (e ≤ last_begun journal) × AreOpening case.system.vars (givens_of case journal e) fs
 
+-- how a publication goes
 abbrev pub Publishes : Case → State → State → Step → Type 0
 Publishes case old new step.Took = (fs : List (Option Fact)) × (outcome : Outcome) × (old.working ≡ Some fs)
     × (IsNotClosedAny case.system.constraints (givens_of case old.journal (published old.journal)) fs → ⊥)
@@ -114,6 +119,7 @@ ReopensFrom case journal None work = WorkNext case journal (published journal) w
 abbrev pub IsReopened : Case → State → State → Type 0
 IsReopened case old new = (new ≡ record old { working = new.working }) × ReopensFrom case old.journal old.working new.working
 
+-- how a command of a viewer goes
 abbrev pub Says : Case → State → ℕ → Command → State → Step → Type 0
 Says case old viewer said new (step.Said told) = ((e : ℕ) → IsNotPublished old.journal said e → ⊥)
     × (new.journal ≡ old.journal ++ entry.Said viewer (length (commands_of viewer old.journal)) said told ∷ [])

@@ -34,6 +34,7 @@ demand_of (command.Ask (ask.Page p k)) told = page_demand p told
 demand_of (command.Ask (ask.Stack choice)) told = stack_demand told
 demand_of _ told = demand.Nothing
 
+-- what an entry demands
 abbrev pub demand_in : Entry → Demand
 demand_in (entry.Said viewer index said told) = demand_of said told
 demand_in (entry.Published e outcome) = demand.Nothing

@@ -70,6 +70,7 @@ pub record IsPresentOf (case : Case) (journal : List Entry) (kept : List (Option
   pub agree : Agree o.givens
   pub carried : IsCarried case.system.vars case.system.constraints o.givens kept o.facts
 
+-- the board of the least unpublished epoch, where there is one, is such a board
 abbrev pub HasPresent : Case → List Entry → List (Option Fact) → Option HomeView → Type 0
 HasPresent case journal kept None = Unit {0}
 HasPresent case journal kept (Some present) = IsPresentOf case journal kept present.board.opening

@@ -18,9 +18,11 @@ abbrev pub claim : ℕ → ℕ → Order → Claim
 claim f g Above = record { upper = f; lower = g }
 claim f g Below = record { upper = g; lower = f }
 
+-- the opposite claim
 abbrev pub reversed : Claim → Claim
 reversed c = record { upper = c.lower; lower = c.upper }
 
+-- both say the same
 abbrev pub is_claim : Claim → Claim → Bool
 is_claim c d = c.upper == d.upper && c.lower == d.lower
 
@@ -64,15 +66,19 @@ pub record State : Type 0 where
   pub branches : List Branch
   pub ended : Bool
 
+-- nothing is declared and nothing holds
 abbrev pub start : State
 start = record { declared = []; held = []; branches = []; ended = false }
 
+-- one more constraint is declared, behind the others
 abbrev pub declare : State → Declared → State
 declare s d = record s { declared = s.declared ++ d ∷ [] }
 
+-- one more claim holds
 abbrev pub hold : State → Claim → State
 hold s c = record s { held = with_claim s.held c }
 
+-- the claim is tried: it holds in a branch that remembers what held before
 abbrev pub open_branch : State → Claim → State
 open_branch s c = record s { held = with_claim s.held c; branches = record { tried = c; before = s.held } ∷ s.branches }
 
@@ -82,6 +88,7 @@ abbrev pub close_from : State → List Branch → State
 close_from s [] = record s { ended = true }
 close_from s (b ∷ rest) = record s { held = with_claim b.before (reversed b.tried); branches = rest }
 
+-- the innermost branch is closed, or the log has ended
 abbrev pub close : State → State
 close s = close_from s s.branches
 

@@ -12,6 +12,7 @@ has_no_zero [] = false
 has_no_zero (x ∷ []) = true
 has_no_zero (x ∷ y ∷ ys) = not (x == 48)
 
+-- digits without a zero in front
 abbrev pub is_decimal : List ℕ → Bool
 is_decimal t = list_all is_ascii_digit t && has_no_zero t
 
@@ -19,6 +20,7 @@ is_decimal t = list_all is_ascii_digit t && has_no_zero t
 abbrev pub number_of : ℕ → List ℕ → Option ℕ
 number_of bound t = if is_decimal t && nat_lt (digits_value 10 t) bound then Some (digits_value 10 t) else None
 
+-- minus the number, where it is not zero
 abbrev pub below_zero : ℕ → Option ℤ
 below_zero n = if n == 0 then None else Some (neg_ℤ (pos n))
 

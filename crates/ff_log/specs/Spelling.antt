@@ -20,6 +20,7 @@ order_word Below = codes "below"
 abbrev pub place_parts : Place → List (List ℕ)
 place_parts p = signed_decimal p.x ∷ signed_decimal p.y ∷ signed_decimal p.w ∷ []
 
+-- the three numbers of a place with commas between them
 abbrev pub place_word : Place → List ℕ
 place_word p = join_with_byte 44 (place_parts p)
 
@@ -40,6 +41,7 @@ cite_words (TacoEdge e flat) = codes "taco-tortilla" ∷ with_edge e flat
 cite_words (FlatFace flat face at) = codes "tortilla-tortilla" ∷ with_face flat face at
 cite_words (FlatEdge flat flat2) = codes "tortilla-tortilla" ∷ with_edge flat flat2
 
+-- the words of a line
 abbrev pub words_of : LogLine → List (List ℕ)
 words_of (line.Use c) = codes "use" ∷ cite_words c
 words_of (line.Crease e) = codes "crease" ∷ decimal e ∷ []
@@ -69,6 +71,7 @@ IsCite (TacoEdge e flat) = (e < 2 ^ 32) × (flat < 2 ^ 32)
 IsCite (FlatFace flat face at) = (flat < 2 ^ 32) × (face < 2 ^ 32) × ArePlaces 2 at
 IsCite (FlatEdge flat flat2) = (flat < 2 ^ 32) × (flat2 < 2 ^ 32)
 
+-- the numbers of the line are below 2^32, and its cite is one
 abbrev pub IsLine : LogLine → Type 0
 IsLine (line.Use c) = IsCite c
 IsLine (line.Crease e) = e < 2 ^ 32

@@ -14,6 +14,7 @@ counted before done = if done then before else min (before + 1) (2 ^ 64 - 1)
 pub late-64 : (n : ℕ) → n ≡ 2 ^ 64 - 1 → 2 ^ 64 - 1 ≤ n
 late-64 n e = subst (λ (m : ℕ). 2 ^ 64 - 1 ≤ m) (sym e) (lit≤ tt)
 
+-- the last count of 128 bits is past the last of 64
 pub late-128 : (n : ℕ) → n ≡ 2 ^ 128 - 1 → 2 ^ 64 - 1 ≤ n
 late-128 n e = subst (λ (m : ℕ). 2 ^ 64 - 1 ≤ m) (sym e) (lit≤ tt)
 

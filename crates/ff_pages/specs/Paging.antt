@@ -29,6 +29,7 @@ abbrev pub visited_by : Option Search → ℕ
 visited_by None = 0
 visited_by (Some s) = s.visited
 
+-- how many nodes were visited
 abbrev pub visited_of : Pages → ℕ
 visited_of p = visited_by p.search
 
@@ -120,12 +121,15 @@ FindsIn tree wanted p gone.Finished = drop (visited_of p) (visits tree) ≡ []
 FindsIn tree wanted p gone.Spent = (length p.found.items < wanted) × (drop (visited_of p) (visits tree) ≡ [] → ⊥)
     × (p.budget < length p.part.vars * (visited_of p + 1))
 
+-- how the search finds the wanted solution, in the tree
 abbrev pub Finds : List Constraint → ℕ → Pages → Gone → Type 0
 Finds cons wanted p g = (tree : Tree) → IsTree cons (value_at p.facts.value) p.part.vars tree → FindsIn tree wanted p g
 
+-- the search has begun
 abbrev pub IsBegun : Pages → Type 0
 IsBegun p = (s : Search) × (p.search ≡ Some s)
 
+-- all nodes of the tree are visited
 abbrev pub HasEnded : List Constraint → Pages → Type 0
 HasEnded cons p = (tree : Tree) → IsTree cons (value_at p.facts.value) p.part.vars tree → drop (visited_of p) (visits tree) ≡ []
 

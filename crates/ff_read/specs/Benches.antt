@@ -22,6 +22,7 @@ use Rattle.ff_read.specs.Checks.{LiesUnder, fold_in}
 
 -- ---- the scripts
 
+-- the items, where all of them are strings
 abbrev pub only_texts : List Data → Option (List Data)
 only_texts ds = if list_all (λ d. is_some (as_str d)) ds then Some ds else None
 
@@ -108,6 +109,7 @@ abbrev pub IsNoBenchOf : Data → No → Type 0
 IsNoBenchOf d (no.Refused r) = RefusesBench d r
 IsNoBenchOf d no.NoMemory = Unit {0}
 
+-- why there is no bench input
 abbrev pub IsNoBench : List ℕ → No → Type 0
 IsNoBench bytes (no.Refused r) = RefusesSession bytes r
 IsNoBench bytes no.NoMemory = Unit {0}

@@ -41,9 +41,11 @@ pin_in (x ∷ y ∷ z ∷ []) =
     option_and_then (λ a. option_and_then (λ b. if a == b then None else option_map (λ v. record { f = a; g = b; value = v }) (order_of z)) (face_of y)) (face_of x)
 pin_in ds = None
 
+-- the pin that an item spells
 abbrev pub pin_of : Data → Option Pin
 pin_of d = option_and_then pin_in (list_of d)
 
+-- the pins that the value spells, none where it is absent
 abbrev pub pins_under : Option Data → Option (List Pin)
 pins_under None = Some []
 pins_under (Some d) = option_and_then (all_of pin_of) (list_of d)
@@ -56,6 +58,7 @@ pins_in d = pins_under (get (codes "pins") d)
 abbrev pub line_of : Data → Option (List ℕ)
 line_of d = option_and_then (λ t. if list_any (λ b. b == 10) t then None else Some t) (as_str d)
 
+-- the lines that the value spells
 abbrev pub log_in : Data → Option (List (List ℕ))
 log_in d = option_and_then (all_of line_of) (list_of d)
 
@@ -116,6 +119,7 @@ RefusesCheck d (TooMany Pins limit) = (keys : Keys) × (pins : List Pin) × (lin
     × AreSpelled keys p × (MOST_PINS < length pins) × (limit ≡ MOST_PINS)
 RefusesCheck d r = (keys : Keys) × (pins : List Pin) × (lines : List (List ℕ)) × HasMembers d keys pins lines × RefusesItems keys r
 
+-- why bytes are refused as an input of `check`
 abbrev pub RefusesInput : List ℕ → Refusal → Type 0
 RefusesInput bytes NotJson = object_of bytes ≡ None
 RefusesInput bytes r = (d : Data) × (object_of bytes ≡ Some d) × RefusesCheck d r
@@ -125,6 +129,7 @@ abbrev pub IsNoCheckOf : Data → No → Type 0
 IsNoCheckOf d (no.Refused r) = RefusesCheck d r
 IsNoCheckOf d no.NoMemory = Unit {0}
 
+-- why there is no input of `check`
 abbrev pub IsNoCheck : List ℕ → No → Type 0
 IsNoCheck bytes (no.Refused r) = RefusesInput bytes r
 IsNoCheck bytes no.NoMemory = Unit {0}

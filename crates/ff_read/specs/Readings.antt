@@ -16,6 +16,7 @@ pub record ReadingIsOne : Type 0 where
   -- They come to something. It is said by what can't be, since no definition decides what it is.
   pub some : (bytes : List ℕ) → ((p : Pattern) → IsReadAs bytes p → ⊥) → ((r : Refusal) → RefusesBytes bytes r → ⊥) → ⊥
 
+-- bytes come to one input of `check` or to one refusal
 pub record CheckIsOne : Type 0 where
   pub pattern : (bytes : List ℕ) (a b : CheckInput) → IsCheck bytes a → IsCheck bytes b
       → (a.pattern.points ≡ b.pattern.points) × (a.pattern.edges ≡ b.pattern.edges) × (a.pattern.marks ≡ b.pattern.marks)
@@ -24,6 +25,7 @@ pub record CheckIsOne : Type 0 where
   pub not_both : (bytes : List ℕ) (a : CheckInput) (r : Refusal) → IsCheck bytes a → RefusesInput bytes r → ⊥
   pub some : (bytes : List ℕ) → ((a : CheckInput) → IsCheck bytes a → ⊥) → ((r : Refusal) → RefusesInput bytes r → ⊥) → ⊥
 
+-- bytes come to one bench input or to one refusal
 pub record BenchIsOne : Type 0 where
   pub pattern : (bytes : List ℕ) (a b : BenchInput) → IsBench bytes a → IsBench bytes b
       → (a.pattern.points ≡ b.pattern.points) × (a.pattern.edges ≡ b.pattern.edges) × (a.pattern.marks ≡ b.pattern.marks)

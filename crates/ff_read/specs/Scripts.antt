@@ -48,6 +48,7 @@ AreScriptsNot viewers no.NoMemory = Unit {0}
 abbrev pub AreFewScripts : List (List Data) → List (List Command) → Type 0
 AreFewScripts viewers scripts = AreFew viewers × AreScripts viewers scripts
 
+-- why there are no scripts
 abbrev pub AreFewScriptsNot : List (List Data) → No → Type 0
 AreFewScriptsNot viewers (Refused r) = RefusesScripts viewers r
 AreFewScriptsNot viewers no.NoMemory = Unit {0}

@@ -30,6 +30,7 @@ Tells pairs held known = (v : ℕ) (s : Order) → known v s → Holds held (cla
 abbrev pub ground_of : Case → List Claim → Ground
 ground_of case pins = record { uses = UsesIn case; crease = λ e. start_by case.pairs e case.starts; pins = pins; may_try = ArePair case }
 
+-- what the constraint declares, and anything where there is none
 abbrev pub declared_or : List (ℕ × ℕ) → Option Constraint → Declared
 declared_or pairs None = record { kind = TacoTortilla; terms = [] }
 declared_or pairs (Some con) = declared_in pairs con

@@ -13,6 +13,7 @@ use Rattle.ff_refute.specs.declared.making.Maker.{Maker}
 use Rattle.ff_log.specs.declared.claims.Claim.{Claim}
 use Rattle.ff_refute.specs.Making.{claim_of, Holds, IsMaking}
 
+-- the j-th entry, and anything past the end
 abbrev pub entry_at : List Ordered → ℕ → Ordered
 entry_at order j = slice_index_or order j (record { level = 0; var = 0 })
 
@@ -22,6 +23,7 @@ pub record IsEntry (fs : List (Option Fact)) (e : Ordered) : Type 0 where
   pub there : fact_at fs e.var ≡ Some fact
   pub level : fact.level ≡ e.level
 
+-- all of them are entries of these facts
 abbrev pub AreEntries : List (Option Fact) → List Ordered → Type 0
 AreEntries fs order = (e : Ordered) → Contains order e → IsEntry fs e
 
@@ -37,6 +39,7 @@ pub record IsOrderOf (fs : List (Option Fact)) (order : List Ordered) : Type 0 w
   pub sorted : (i j : ℕ) (d : Ordered) → i ≤ j → j < length order
       → (slice_index_or order i d).level ≤ (slice_index_or order j d).level
 
+-- the variable is marked
 abbrev pub IsMarked : List Bool → ℕ → Type 0
 IsMarked marks v = slice_index_or marks v false ≡ true
 

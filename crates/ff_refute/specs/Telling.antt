@@ -28,6 +28,7 @@ pub record IsTold (pairs : List (ℕ × ℕ)) (value : ℕ → Option Order) (ma
   pub base : (v : ℕ) (s : Order) → IsMarked marks v → value v ≡ Some s → Holds claims (claim_of pairs v s)
   pub since : (v : ℕ) (s : Order) → Contains held (v, s) → Holds claims (claim_of pairs v s)
 
+-- each list of tried values is told by what its branch will leave behind
 abbrev pub AreStacked : List (ℕ × ℕ) → (ℕ → Option Order) → List Bool → List (List (ℕ × Order)) → List Branch → Type 0
 AreStacked pairs value marks [] [] = Unit {0}
 AreStacked pairs value marks (h ∷ stack) (b ∷ branches) = IsTold pairs value marks (with_claim b.before (reversed b.tried)) h
@@ -50,10 +51,12 @@ pub record GoesOn (case : Case) (pins : List Claim) (value : ℕ → Option Orde
   pub writing : IsWriting case pins value marks held stack m
   pub runs : Runs case.system.vars case.system.constraints value held stack steps
 
+-- the log goes on by these steps, or it has closed and none is left
 abbrev pub IsAtSteps : Case → List Claim → (ℕ → Option Order) → List Bool → List Step → Maker → Type 0
 IsAtSteps case pins value marks steps m = GoesOn case pins value marks steps m
     ⊎ (Closes (ground_of case pins) m.lines.items × (steps ≡ []))
 
+-- the variable that a step sets or tries
 abbrev pub var_of : Step → Option ℕ
 var_of (step.Set v s c) = Some v
 var_of (step.Try v) = Some v

@@ -24,6 +24,7 @@ abbrev pub AreMarks : List Constraint → Trail → ℕ → List ℕ → Type 0
 AreMarks cons t bound [] = Unit {0}
 AreMarks cons t bound (m ∷ marks) = (m < bound) × AreSilent cons (cut t m) × AreMarks cons t m marks
 
+-- a trail with a mark for each branch, and room for as many branches as there are variables
 pub record IsPath (vars : ℕ) (cons : List Constraint) (p : Path) : Type 0 where
   pub trail : IsTrail vars p.trail
   pub marks : AreMarks cons p.trail (length p.trail.steps.items) (reverse p.branches.items)
@@ -43,6 +44,7 @@ AreBranches cons value part t (m ∷ marks) (tree ∷ trees) = IsBranch cons val
     × AreBranches cons value part t marks trees
 AreBranches cons value part t _ _ = ⊥
 
+-- the nodes of a tree in order, each with the solution that it is or none
 abbrev pub Nodes : Type 0
 Nodes = List (Option (List Order))
 
@@ -117,5 +119,6 @@ abbrev pub FirstOpen : List ℕ → Trail → Option ℕ → Type 0
 FirstOpen part t None = AreDecided part t
 FirstOpen part t (Some v) = IsFirstOpen part t v
 
+-- the variables of the part are among those of the system
 abbrev pub AreWithin : ℕ → List ℕ → Type 0
 AreWithin vars part = (j : ℕ) → j < length part → slice_index part j < vars

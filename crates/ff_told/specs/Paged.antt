@@ -81,6 +81,7 @@ abbrev pub IsPageToldBy : Case → List Pages → ℕ → ℕ → Option (List �
 IsPageToldBy case pages i k None told = told ≡ reply.NoPart
 IsPageToldBy case pages i k (Some vars) told = (a : PageAnswer) × (told ≡ reply_of a) × IsPageAt case pages i k a
 
+-- the reply to `page` for the i-th part
 abbrev pub IsPageToldAt : Case → List Pages → ℕ → ℕ → Reply → Type 0
 IsPageToldAt case pages i k told = IsPageToldBy case pages i k (slice_get (parts_of pages) i) told
 

@@ -31,5 +31,6 @@ most_read bench (Some (Make count budget)) = None
 abbrev pub limit_alone : List (List ℕ) → Option ℕ
 limit_alone words = most_read None (job_named words)
 
+-- how many bytes are read for these words
 abbrev pub limit : List (List ℕ) → Option ℕ
 limit words = most_read (Some MOST_BYTES) (job_named words)

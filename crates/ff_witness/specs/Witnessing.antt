@@ -20,6 +20,7 @@ inner_line points false u v = through (point_at points v) (point_at points u)
 abbrev pub border_line : List Pt → Bool → List ℕ → ℕ → Line
 border_line points up ring k = inner_line points up (corner ring k) (after ring k)
 
+-- the k-th place, and no place past the end
 abbrev pub place_at : List Place → ℕ → Place
 place_at places k = slice_index_or places k (record { x = pos 0; y = pos 0; w = pos 0 })
 
@@ -34,6 +35,7 @@ pub record IsWitnessOver (line : Line) (places : List Place) : Type 0 where
 abbrev pub IsWitnessTo : List Pt → Bool → List ℕ → ℕ → List Place → Type 0
 IsWitnessTo points up ring n places = (k : ℕ) → k < n → IsWitnessOver (border_line points up ring k) places
 
+-- the face shows its upper side; so does no face
 abbrev pub is_up_in : List Bool → Option ℕ → Bool
 is_up_in up (Some f) = is_up up f
 is_up_in up None = true
