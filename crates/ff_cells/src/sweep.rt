@@ -33,6 +33,7 @@ use ff_whole::Place;
 use std::alloc::Global;
 use std::cmp::Ordering;
 
+// There are more than the limit.
 pub fn too_many(what: What, limit: usize) -> No
     ensures { result ≡ Refused (TooMany what limit) }
 {
