@@ -6,8 +6,8 @@ ghost use Rattle.ff_edges.specs.Ways.{IsCommonWay, HaveNoWay, IsEarlier, IsLater
 
 use ff_whole::{Pt, orient};
 
-// Whether `p` comes before `q` in the order of x and then of y.
-fn is_before(p: Pt, q: Pt) -> bool
+/// Whether `p` comes before `q` in the order of x and then of y.
+pub fn is_before(p: Pt, q: Pt) -> bool
     requires p_near { IsNear p }
     requires q_near { IsNear q }
     ensures { IsTrue result ↔ (rank p <ℤ rank q) }

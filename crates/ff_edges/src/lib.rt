@@ -18,6 +18,7 @@ mod sides;
 
 pub use along::edge_pairs;
 pub use beside::{ends, face_left};
+pub use common::{common_way, earlier, is_before, later};
 pub use crossed::edge_faces;
 pub use edge_face::EdgeFace;
 pub use edge_pair::EdgePair;

@@ -1,7 +1,7 @@
 pub mod Lists
 mod Outcomes
 pub mod OneReading
-mod Sizes
+pub mod Sizes
 mod Good
 mod SeenEdges
 mod SortedEdges

@@ -393,6 +393,9 @@ read_is : (b : Bool) (o : Option Data) (d : Data) → (if b then o else None) �
 read_is true o d e = e
 read_is false o d e = absurd (cc)
 
+pub few_under : (bytes : List ℕ) (d : Data) → length bytes < 2 ^ 32 → object_of bytes ≡ Some d → (k : List ℕ) (ds : List Data) → option_and_then list_of (get k d) ≡ Some ds → length ds < 2 ^ 32
+few_under bytes d l o k ds is = let n = few_items bytes d k ds (read_is (is_utf8 bytes) (read bytes) d (object_is (json_of bytes) d o)) is in omega (arith, l, n)
+
 pub has_few_items : (bytes : List ℕ) (d : Data) → length bytes < 2 ^ 32 → object_of bytes ≡ Some d → HasFewItems d
 has_few_items bytes d l o =
     let r = read_is (is_utf8 bytes) (read bytes) d (object_is (json_of bytes) d o) in

@@ -1,12 +1,12 @@
 -- A place divided by the common divisor of its numbers.
 use Rattle.std.proofs.Common.{◌≡◌, ℕ, ◌*◌, ◌<◌, ◌^◌, sym, ap, ◌∙◌, subst, arith, ℤ, pos, negsuc, ◌+ℤ◌, ◌*ℤ◌, ◌<ℤ◌, unsigned_abs, to_z, of_z, FitsSigned}
 use Prim.Native.Nat.{◌∣◌}
-use native.Mathlib.Nat.{dvd_trans, mod-eq-zero_of_dvd, pos_of_dvd_of_pos, mul-dvd-mul_left, dvd_of_mul-dvd-mul_left, eq-one_of_dvd-one, mul-one, le_of_dvd}
+use native.Mathlib.Nat.{dvd-mul_right, dvd_trans, mod-eq-zero_of_dvd, pos_of_dvd_of_pos, mul-dvd-mul_left, dvd_of_mul-dvd-mul_left, eq-one_of_dvd-one, mul-one, le_of_dvd}
 use lib.IntN.{neg_ℤ, *ℤ_comm, +ℤ_idr}
 use Rattle.std.specs.Int.{IsGcd}
 use Rattle.std.specs.Int.RustNames.{int_div, int_rem}
 use Rattle.std.proofs.lemmas.Int.{ints, quot-rem, quot_fits, unsigned_abs-mul, to_z-of_z, to_z_pos}
-use Rattle.ff_whole.proofs.Signs.{pos_from_mul}
+use Rattle.ff_whole.proofs.Signs.{cancel_left, pos_from_mul}
 use mir.Syntax.{Width, w128}
 use mir.Val.{hbits}
 use Rattle.ff_whole.specs.Meeting.{IsReduced}
@@ -57,6 +57,31 @@ reduced_is x y w g d h j k =
     }
 
 -- ---- as the code computes it
+
+one_divides : (d : ℕ) → d ∣ 1 → d ≡ 1
+one_divides d h = eq-one_of_dvd-one h
+
+times_one : (w : ℤ) → w ≡ w *ℤ pos 1
+times_one w = omega (arith, ints)
+
+-- whole quotients are the place in lowest terms
+pub whole_is : (x y w a b : ℤ) → pos 0 <ℤ w → x ≡ w *ℤ a → y ≡ w *ℤ b → IsReduced x y w (record { x = a; y = b; w = pos 1 })
+whole_is x y w a b h e f = record {
+  by = w;
+  by_positive = h;
+  x_is = e;
+  y_is = f;
+  w_is = times_one w;
+  positive = omega (arith, ints);
+  lowest = λ d k l m. one_divides d m;
+}
+
+-- a whole quotient fits its type
+pub whole_fits : (v : Width) (x w p : ℤ) → FitsSigned v x → pos 0 <ℤ w → x ≡ w *ℤ p → FitsSigned v p
+whole_fits v x (pos d) p f h e =
+    let all = exact x d (subst (λ n. d ∣ n) (sym (size x p d e)) (dvd-mul_right d (unsigned_abs p))) in
+    subst (FitsSigned v) (cancel_left (pos d) (int_div x (pos d)) p h (sym all ∙ e)) (quot_fits v x (pos d) f h)
+whole_fits v x (negsuc d) p f h e = absurd (omega (arith, ints))
 
 code : (w : Width) (a : ℤ) (d : ℕ) → FitsSigned w a → d < 2 ^ hbits w
     → int_div (to_z w (of_z w a)) (to_z w d) ≡ int_div a (pos d)
