@@ -1,5 +1,5 @@
 -- Edges whose numbers, sorted, rise are different edges.
-use Rattle.std.proofs.Common.{◌≡◌, ◌∙◌, ℕ, ◌-◌, ◌<◌, List, length, get_or, map, false, arith, sym, subst, ◌⊎◌, inl, inr}
+use Rattle.std.proofs.Common.{◌≡◌, ◌∙◌, ℕ, ◌<◌, List, length, get_or, map, false, arith, sym, subst}
 use lib.Dec.{eqb}
 use Rattle.std.proofs.lemmas.Bool.{eqb-false}
 use Rattle.std.proofs.lemmas.List.{get_or_default, get_or-map, length-map}
@@ -18,13 +18,6 @@ use Rattle.ff_read.proofs.SeenEdges.{key_same}
 
 pub rising_start : (keys : List ℕ) → AreRising keys 1
 rising_start keys i j h l = absurd (omega (arith, h, l))
-
-    either : i < n → (i ≡ n - 1) ⊎ (i < n - 1)
-    either k = grind (arith, k)
-
-    by : (j < n) ⊎ (j ≡ n) → get_or keys i 0 < get_or keys j 0
-    by (inl k) = up i j h k
-    by (inr e) = subst (λ k. get_or keys i 0 < get_or keys k 0) (sym e) (last (either (subst (λ k. i < k) e h)))
 
 less_apart : (a b : ℕ) → a < b → eqb a b ≡ false
 less_apart a b h = grind (arith, nat_tests, h)
