@@ -5,3 +5,5 @@ mod Marked
 mod Written
 mod Stepping
 mod Accepting
+mod Trimmed
+mod Rested

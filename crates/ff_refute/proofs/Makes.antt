@@ -26,7 +26,7 @@ use Rattle.ff_refute.specs.Givens.{AreGivens, pin_claims}
 use Rattle.ff_refute.specs.Making.{claim_of, Holds, ground_of, IsThere, state_of, declared_or, declared_at, IsMaking, IsDeclaring, CanForce, CanClose, Shuts}
 use Rattle.ff_refute.proofs.OneMore.{at_use, reach_last}
 
-equal_keys : (a b : Bool) → is_eq (cond a Less (cond b Equal Greater)) ≡ true → b ≡ true
+pub equal_keys : (a b : Bool) → is_eq (cond a Less (cond b Equal Greater)) ≡ true → b ≡ true
 equal_keys true true h = refl
 equal_keys true false h = cc
 equal_keys false true h = refl

@@ -27,12 +27,12 @@ use Rattle.ff_refute.specs.Marks.{entry_at, IsOrderOf, IsWritten}
 use Rattle.ff_refute.specs.Telling.{HaveConstraints, HaveVariables}
 use Rattle.ff_refute.proofs.Claims.{forces_claim, dead_claims, holds_now, holds_more}
 
-later_or_now : (v : ℕ) (s : Order) (held : List (ℕ × Order)) (u : ℕ) (t : Order)
+pub later_or_now : (v : ℕ) (s : Order) (held : List (ℕ × Order)) (u : ℕ) (t : Order)
     → Contains ((v, s) ∷ held) (u, t) → ((u ≡ v) × (t ≡ s)) ⊎ Contains held (u, t)
 later_or_now v s held u t (zero, l, e) = inl (ap (λ q. q.0) (sym e), ap (λ q. q.1) (sym e))
 later_or_now v s held u t (suc k, l, e) = inr (k, omega (arith, l), e)
 
-no_step : {A : Type 0} {q : Step} {steps : List Step} → q ∷ steps ≡ [] → A
+pub no_step : {A : Type 0} {q : Step} {steps : List Step} → q ∷ steps ≡ [] → A
 no_step e = cc
 
 module _ (case : Case) (pins : List Claim) (value : ℕ → Option Order) (marks : List Bool) where

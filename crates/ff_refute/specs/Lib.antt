@@ -2,3 +2,4 @@ pub mod Givens
 pub mod Making
 pub mod Marks
 pub mod Telling
+pub mod Trimming

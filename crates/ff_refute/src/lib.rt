@@ -6,6 +6,7 @@ mod making;
 mod marking;
 mod ordering;
 mod parts;
+mod trimming;
 
 pub use clashes::log_of_clash;
 pub use parts::log_of_part;

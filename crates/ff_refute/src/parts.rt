@@ -20,6 +20,7 @@ use crate::clashes::Source;
 use crate::making::Maker;
 use crate::marking::{mark_bases, mark_terms};
 use crate::ordering::{Ordered, by_levels};
+use crate::trimming::trimmed;
 use ff_log::Log;
 use ff_propagate::{Facts, Part};
 use ff_solver::{Step, refutation};
@@ -153,7 +154,7 @@ fn lines_of_steps(alloc: Global, source: &Source, steps: &[Step]) -> Result<Make
 }
 
 /// A log that is accepted for the case and the pins among the givens, of a part of a board that has no solution: the facts that its
-/// refutation rests on, in the order of their levels, and the refutation by tried values.
+/// refutation rests on, in the order of their levels, and the refutation by tried values, without those values that nothing of it rests on.
 pub fn log_of_part(
     alloc: Global,
     case: &Case,
@@ -176,7 +177,8 @@ pub fn log_of_part(
         givens,
         facts,
     };
-    let maker = lines_of_steps(alloc, &source, steps.as_slice())?;
+    let mut kept = trimmed(alloc, &case.system, steps.as_slice())?;
+    let maker = lines_of_steps(alloc, &source, kept.make_contiguous())?;
     Ok(Log {
         lines: Items::of(maker.lines),
     })
