@@ -21,7 +21,7 @@ use Rattle.ff_solve.specs.Reports.{IsReport}
 use Rattle.ff_solve.proofs.OneReport.{one_report}
 use Rattle.ff_top.specs.Texts.{usage_line}
 use Rattle.ff_words.specs.declared.jobs.Job.{Job}
-use Rattle.ff_words.specs.declared.jobs.Job.TheVariants.{Solve, Check, Bench, Make}
+use Rattle.ff_words.specs.declared.jobs.Job.TheVariants.{Solve, Check, Bench, Lines, Make}
 use Rattle.ff_words.specs.Form.{job_named}
 use Rattle.ff_top.specs.Benching.{AnswersBench, IsRefusedBench}
 use Rattle.ff_top.specs.Solving.{ReadsProblem, ReadsRefused, IsRefused, IsSolved, AnswersSolve, status_of}
@@ -30,8 +30,9 @@ use Rattle.ff_top.specs.declared.status.Status.{Status}
 use Rattle.ff_top.specs.declared.status.Status.TheVariants.{Done, Impossible, Refused, Unfinished, ReadFault, WriteFault, NoMemory, Usage}
 use Rattle.ff_problem.proofs.SamePatterns.{problem_there, refused_there}
 use Rattle.ff_judged.specs.Answers.{OneJudgement}
+use Rattle.ff_cut.specs.Answers.{OneDrawing}
 use Rattle.ff_made.specs.Answers.{OneSummary}
-use Rattle.ff_top.proofs.Modes.{check_no_fault, make_no_fault, one_check, one_make}
+use Rattle.ff_top.proofs.Modes.{check_no_fault, drawing_no_fault, make_no_fault, one_check, one_lines, one_make}
 
 -- ---- refusals
 
@@ -111,12 +112,13 @@ usage_view NoMemory text h = absurd h
 one_usage : (s t : Status) (x y : List ℕ) → AnswersUsage s x → AnswersUsage t y → (s ≡ t) × AreOneText x y
 one_usage s t x y a b = let u = usage_view s x a in let v = usage_view t y b in (u.0 ∙ sym v.0, same_one x y (u.1 ∙ sym v.1))
 
-module _ (one_log : OneJudgement) (one_count : OneSummary) where
+module _ (one_log : OneJudgement) (one_drawing : OneDrawing) (one_count : OneSummary) where
   one_to : (o : Option Job) (input : List ℕ) (s t : Status) (x y : List ℕ) → AnswersTo NoBench o input s x → AnswersTo NoBench o input t y → (s ≡ t) × AreOneText x y
   one_to None input s t x y a b = one_usage s t x y a b
   one_to (Some (Solve budget)) input s t x y a b = one_view budget input s t x y (view budget input s x a) (view budget input t y b)
   one_to (Some Check) input s t x y a b = one_check one_log input s t x y a b
   one_to (Some (Bench budget workers)) input s t x y a b = one_usage s t x y a b
+  one_to (Some Lines) input s t x y a b = one_lines one_drawing input s t x y a b
   one_to (Some (Make count budget)) input s t x y a b = one_make one_count count budget s t x y a b
 
   pub one_answer : OneAnswer
@@ -152,6 +154,7 @@ no_fault bench safe None input status text a e = usage_no_fault status text a e
 no_fault bench safe (Some (Solve budget)) input status text a e = solve_no_fault budget input status text a e
 no_fault bench safe (Some Check) input status text a e = check_no_fault input status text a e
 no_fault bench safe (Some (Bench budget workers)) input status text a e = safe budget input status text a e
+no_fault bench safe (Some Lines) input status text a e = drawing_no_fault input status text a e
 no_fault bench safe (Some (Make count budget)) input status text a e = make_no_fault count budget status text a e
 
 -- a predicate of answers none of which is a fault

@@ -8,7 +8,7 @@ use Rattle.std.proofs.lemmas.Bool.{leb-true}
 use Rattle.ff_basics.proofs.Tests.{and_true}
 use Rattle.ff_words.specs.declared.jobs.Job.{Job}
 use Rattle.ff_words.specs.declared.jobs.Job.TheVariants as job
-use Rattle.ff_words.specs.Form.{is_number, number, budget_of, workers_of, is_empty, solve_job, check_job, bench_job, make_job, job_at, job_of, said, job_named, others, values, Said, Choice}
+use Rattle.ff_words.specs.Form.{is_number, number, budget_of, workers_of, is_empty, solve_job, check_job, bench_job, lines_job, make_job, job_at, job_of, said, job_named, others, values, Said, Choice}
 use Rattle.ff_words.specs.Form.{budget, workers}
 use Rattle.ff_top.specs.Counts.{HasCount}
 
@@ -36,6 +36,10 @@ checks : (b : Bool) → HasCount (if b then Some job.Check else None)
 checks true = tt
 checks false = tt
 
+draws : (b : Bool) → HasCount (if b then Some job.Lines else None)
+draws true = tt
+draws false = tt
+
 benches : (o p : Option ℕ) → HasCount (option_and_then (λ b. option_map (λ k. job.Bench b k) p) o)
 benches None p = tt
 benches (Some b) None = tt
@@ -53,10 +57,11 @@ chosen false x y h k = k
 
 at : (ws bs ks : List (List ℕ)) → HasCount (job_at ws bs ks)
 at [] bs ks = tt
-at (w ∷ []) bs ks = chosen (bytes_eq w (codes "solve")) (solve_job bs ks) (if bytes_eq w (codes "check") then check_job bs ks else (if bytes_eq w (codes "bench") then bench_job bs ks else None))
+at (w ∷ []) bs ks = chosen (bytes_eq w (codes "solve")) (solve_job bs ks) (if bytes_eq w (codes "check") then check_job bs ks else (if bytes_eq w (codes "bench") then bench_job bs ks else (if bytes_eq w (codes "lines") then lines_job bs ks else None)))
     (solves (is_empty ks) (budget_of bs))
-    (chosen (bytes_eq w (codes "check")) (check_job bs ks) (if bytes_eq w (codes "bench") then bench_job bs ks else None) (checks (is_empty bs && is_empty ks))
-    (chosen (bytes_eq w (codes "bench")) (bench_job bs ks) None (benches (budget_of bs) (workers_of ks)) tt))
+    (chosen (bytes_eq w (codes "check")) (check_job bs ks) (if bytes_eq w (codes "bench") then bench_job bs ks else (if bytes_eq w (codes "lines") then lines_job bs ks else None)) (checks (is_empty bs && is_empty ks))
+    (chosen (bytes_eq w (codes "bench")) (bench_job bs ks) (if bytes_eq w (codes "lines") then lines_job bs ks else None) (benches (budget_of bs) (workers_of ks))
+    (chosen (bytes_eq w (codes "lines")) (lines_job bs ks) None (draws (is_empty bs && is_empty ks)) tt)))
 at (w ∷ c ∷ []) bs ks = chosen (bytes_eq w (codes "make")) (make_job c bs ks) None (makes (is_empty ks) (number 400 c) (budget_of bs) (is_count c)) tt
 at (w ∷ c ∷ x ∷ ws) bs ks = tt
 

@@ -1,4 +1,4 @@
--- The answers to `check` and `make` are one, and none is a fault.
+-- The answers to `check`, `lines` and `make` are one, and none is a fault.
 use Rattle.std.proofs.Common.{◌≡◌, ◌<◌, ◌⊎◌, inl, inr, ◌∙◌, ℕ, Bool, true, false, List, length, Option, Some, None, refl, ap, sym, subst}
 use Rattle.ff_types.specs.declared.refusals.Refusal.TheVariants.{TooLong}
 use Rattle.ff_report.specs.Refusals.{refusal_line}
@@ -9,6 +9,9 @@ use Rattle.ff_report.proofs.AlikeTexts.{same_one}
 use Rattle.ff_judged.specs.declared.judging.TheConstants.{MOST_CHECK_BYTES}
 use Rattle.ff_judged.specs.Answers.{AnswersLog, OneJudgement}
 use Rattle.ff_made.specs.Answers.{AnswersCount, OneSummary}
+use Rattle.ff_types.specs.declared.limits.TheConstants.{MOST_BYTES}
+use Rattle.ff_cut.specs.Answers.{AnswersLines, OneDrawing}
+use Rattle.ff_top.specs.Drawing.{AnswersDrawing}
 use Rattle.ff_top.specs.Checking.{AnswersCheck, status_if}
 use Rattle.ff_top.specs.Making.{AnswersMake, status_made}
 use Rattle.ff_top.specs.declared.status.Status.{Status}
@@ -44,6 +47,37 @@ check_no_fault input s text a (inr e) = subst (λ (t : Status). AnswersCheck inp
 -- too many bytes
 pub refused_check : (input : List ℕ) (s : Status) (text : List ℕ) → MOST_CHECK_BYTES < length input → (s ≡ Refused) × (text ≡ refusal_line TooLong) → AnswersCheck input s text
 refused_check input s text l h = check_by input s false text h.0 (inl (refl, (TooLong, inl (l, refl), h.1)))
+
+-- ---- `lines`
+
+drawing_view : (input : List ℕ) (s : Status) (text : List ℕ) → AnswersDrawing input s text → (a : Bool) × (s ≡ status_if a) × AnswersLines input a text
+drawing_view input Done text h = (true, refl, h)
+drawing_view input Refused text h = (false, refl, h)
+drawing_view input Impossible text h = absurd h
+drawing_view input Unfinished text h = absurd h
+drawing_view input ReadFault text h = absurd h
+drawing_view input WriteFault text h = absurd h
+drawing_view input NoMemory text h = absurd h
+drawing_view input Usage text h = absurd h
+
+pub drawing_by : (input : List ℕ) (s : Status) (a : Bool) (text : List ℕ) → s ≡ status_if a → AnswersLines input a text → AnswersDrawing input s text
+drawing_by input s true text e h = subst (λ (t : Status). AnswersDrawing input t text) (sym e) h
+drawing_by input s false text e h = subst (λ (t : Status). AnswersDrawing input t text) (sym e) h
+
+pub one_lines : OneDrawing → (input : List ℕ) (s t : Status) (x y : List ℕ) → AnswersDrawing input s x → AnswersDrawing input t y → (s ≡ t) × AreOneText x y
+one_lines law input s t x y a b =
+    let v = drawing_view input s x a in
+    let w = drawing_view input t y b in
+    let o = law input v.0 w.0 x y v.2 w.2 in
+    (v.1 ∙ ap status_if o.0 ∙ sym w.1, same_one x y o.1)
+
+pub drawing_no_fault : (input : List ℕ) (s : Status) (text : List ℕ) → AnswersDrawing input s text → (s ≡ WriteFault) ⊎ (s ≡ ReadFault) → ⊥
+drawing_no_fault input s text a (inl e) = subst (λ (t : Status). AnswersDrawing input t text) e a
+drawing_no_fault input s text a (inr e) = subst (λ (t : Status). AnswersDrawing input t text) e a
+
+-- too many bytes
+pub refused_drawing : (input : List ℕ) (s : Status) (text : List ℕ) → MOST_BYTES < length input → (s ≡ Refused) × (text ≡ refusal_line TooLong) → AnswersDrawing input s text
+refused_drawing input s text l h = drawing_by input s false text h.0 (TooLong, inl (l, refl), h.1)
 
 -- ---- `make`
 

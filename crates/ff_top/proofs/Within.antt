@@ -8,7 +8,7 @@ use Rattle.std.specs.Str.Parse.{digits_value}
 use Rattle.std.proofs.lemmas.Bool.{leb-true}
 use Rattle.ff_basics.proofs.Tests.{and_true}
 use Rattle.ff_words.specs.declared.jobs.Job.{Job}
-use Rattle.ff_words.specs.declared.jobs.Job.TheVariants.{Solve, Check, Bench, Make}
+use Rattle.ff_words.specs.declared.jobs.Job.TheVariants.{Solve, Check, Bench, Lines, Make}
 use Rattle.ff_words.specs.Form.{Text, Said, is_number, number, setting, budget_of, workers_of, is_empty, bench_job, job_at, job_of, said, others, values, job_named}
 use Rattle.ff_words.specs.Form.{budget, workers}
 use Rattle.ff_top.specs.Asking.{AreWithin, bench_asked}
@@ -63,6 +63,10 @@ none : IsWithin None
 unfolding IsWithin
 none = tt
 
+draws : IsWithin (Some Lines)
+unfolding IsWithin
+draws = tt
+
 checks : IsWithin (Some Check)
 unfolding IsWithin
 checks = tt
@@ -82,7 +86,8 @@ job_within : (ws bs ks : List Text) → IsWithin (job_at ws bs ks)
 job_within [] bs ks = none
 job_within (w ∷ []) bs ks = either (bytes_eq w (codes "solve")) _ _ (either (is_empty ks) _ _ (solves (budget_of bs)) none)
     (either (bytes_eq w (codes "check")) _ _ (either (is_empty bs && is_empty ks) _ _ checks none)
-    (either (bytes_eq w (codes "bench")) _ _ (bench_within bs ks) none))
+    (either (bytes_eq w (codes "bench")) _ _ (bench_within bs ks)
+    (either (bytes_eq w (codes "lines")) _ _ (either (is_empty bs && is_empty ks) _ _ draws none) none)))
 job_within (w ∷ c ∷ []) bs ks = either (bytes_eq w (codes "make")) _ _ (either (is_empty ks) _ _ (makes (number 400 c) (budget_of bs)) none) none
 job_within (w ∷ c ∷ x ∷ ws) bs ks = none
 

@@ -1,12 +1,13 @@
 -- What the program answers and writes. This project's own.
 use Rattle.std.specs.Prelude.{ℕ, ◌≡◌, ◌⊎◌, IfSome, List, [], Option, Some, None}
 use Rattle.ff_words.specs.declared.jobs.Job.{Job}
-use Rattle.ff_words.specs.declared.jobs.Job.TheVariants.{Solve, Check, Bench, Make}
+use Rattle.ff_words.specs.declared.jobs.Job.TheVariants.{Solve, Check, Bench, Lines, Make}
 use Rattle.ff_words.specs.Form.{job_named}
 use Rattle.ff_report.specs.Alike.{AreOneText}
 use Rattle.ff_top.specs.Texts.{usage_line}
 use Rattle.ff_top.specs.Solving.{AnswersSolve}
 use Rattle.ff_top.specs.Checking.{AnswersCheck}
+use Rattle.ff_top.specs.Drawing.{AnswersDrawing}
 use Rattle.ff_top.specs.Making.{AnswersMake}
 use Rattle.ff_top.specs.Benching.{AnswersBench}
 use Rattle.ff_top.specs.Transfer.{Tells, Got, GotFront, GotPart}
@@ -24,6 +25,7 @@ AnswersTo bench None input status text = AnswersUsage status text
 AnswersTo bench (Some (Solve budget)) input status text = AnswersSolve budget input status text
 AnswersTo bench (Some Check) input status text = AnswersCheck input status text
 AnswersTo bench (Some (Bench budget workers)) input status text = bench budget input status text
+AnswersTo bench (Some Lines) input status text = AnswersDrawing input status text
 AnswersTo bench (Some (Make count budget)) input status text = AnswersMake count budget status text
 
 -- a workbench that isn't run

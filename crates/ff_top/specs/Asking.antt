@@ -3,7 +3,7 @@ use Rattle.std.specs.Prelude.{ℕ, ◌<◌, ◌≤◌, List, Option, None, Some}
 use Rattle.ff_types.specs.declared.limits.TheConstants.{MOST_BYTES}
 use Rattle.ff_judged.specs.declared.judging.TheConstants.{MOST_CHECK_BYTES}
 use Rattle.ff_words.specs.declared.jobs.Job.{Job}
-use Rattle.ff_words.specs.declared.jobs.Job.TheVariants.{Solve, Check, Bench, Make}
+use Rattle.ff_words.specs.declared.jobs.Job.TheVariants.{Solve, Check, Bench, Lines, Make}
 use Rattle.ff_words.specs.Form.{job_named}
 use Rattle.ff_top.specs.declared.asking.Asked.{Asked}
 
@@ -13,6 +13,7 @@ bench_asked None = None
 bench_asked (Some (Solve budget)) = None
 bench_asked (Some Check) = None
 bench_asked (Some (Bench budget workers)) = Some (record { budget = budget; workers = workers })
+bench_asked (Some Lines) = None
 bench_asked (Some (Make count budget)) = None
 
 -- at most a thousand million turns, and from 1 to 16 workers
@@ -25,6 +26,7 @@ most_read bench None = None
 most_read bench (Some (Solve budget)) = Some MOST_BYTES
 most_read bench (Some Check) = Some MOST_CHECK_BYTES
 most_read bench (Some (Bench budget workers)) = bench
+most_read bench (Some Lines) = Some MOST_BYTES
 most_read bench (Some (Make count budget)) = None
 
 -- the same for the words of `run_alone`, which reads nothing for `bench`, and for those of `run`

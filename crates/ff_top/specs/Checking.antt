@@ -4,7 +4,7 @@ use Rattle.ff_judged.specs.Answers.{AnswersLog}
 use Rattle.ff_top.specs.declared.status.Status.{Status}
 use Rattle.ff_top.specs.declared.status.Status.TheVariants.{Done, Refused}
 
--- the status where the log is accepted, and where it isn't or the input is refused
+-- the status where it is so, as where a log is accepted, and where it isn't or the input is refused
 abbrev pub status_if : Bool → Status
 status_if true = Done
 status_if false = Refused

@@ -4,6 +4,7 @@ pub mod Transfer
 pub mod Asking
 pub mod Solving
 pub mod Checking
+pub mod Drawing
 pub mod Making
 pub mod Counts
 pub mod Benching

@@ -34,6 +34,6 @@ pub(crate) fn asked_of(job: Option<Job>) -> Option<Asked>
 {
     match job? {
         Job::Bench { budget, workers } => Some(Asked { budget, workers }),
-        Job::Solve { .. } | Job::Check | Job::Make { .. } => None,
+        Job::Solve { .. } | Job::Check | Job::Lines | Job::Make { .. } => None,
     }
 }

@@ -11,8 +11,8 @@ use ff_judged::answer_of;
 use ff_tables::NoMemory;
 use std::alloc::Global;
 
-// The status where a log is accepted, and where it isn't.
-fn status_where(accepted: bool) -> Status
+// The status where a log is accepted, and where it isn't; and where lines are drawn, and where they aren't.
+pub(crate) fn status_where(accepted: bool) -> Status
     ensures { result ≡ status_if accepted }
 {
     if accepted {

@@ -4,6 +4,7 @@
 mod asking;
 mod benching;
 mod checking;
+mod drawing;
 mod making;
 mod outcome;
 mod solving;

@@ -11,6 +11,6 @@ pub fn usage_text(alloc: Global) -> Result<Text, NoMemory>
 {
     Ok(Text::of(String::from_str(
         alloc,
-        "usage: flatfold solve|check|bench|make COUNT [--budget N] [--workers N]\n",
+        "usage: flatfold solve|check|bench|lines|make COUNT [--budget N] [--workers N]\n",
     )?))
 }

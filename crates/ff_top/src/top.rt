@@ -6,6 +6,7 @@ ghost use Rattle.ff_top.specs.Transfer.{Tells, IsReadOff};
 ghost use Rattle.ff_top.specs.Asking.{AreWithin, limit, limit_alone, most_read};
 ghost use Rattle.ff_top.specs.Solving.{AnswersSolve};
 ghost use Rattle.ff_top.specs.Checking.{AnswersCheck};
+ghost use Rattle.ff_top.specs.Drawing.{AnswersDrawing};
 ghost use Rattle.ff_top.specs.Counts.{HasCount};
 ghost use Rattle.ff_top.specs.Benching.{AnswersBench};
 ghost use Rattle.ff_top.specs.Writings.{text_of};
@@ -15,12 +16,14 @@ ghost use Rattle.ff_top.specs.Answer.{AnswersTo, NoBench, IsAnswer, IsAnswerOfRu
 use crate::asking::{Asked, asked_of, job_of};
 use crate::benching::bench;
 use crate::checking::check;
+use crate::drawing::draw;
 use crate::making::make;
 use crate::outcome::{Outcome, refuse, usage};
 use crate::solving::solve;
 use crate::status::Status;
 use crate::transfer::{Input, ReadNo, read_all};
 use crate::writing::{WriteNo, write_pieces};
+use ff_cut::{one_drawing, some_drawing};
 use ff_judged::{MOST_CHECK_BYTES, one_judgement, some_judgement};
 use ff_made::{one_summary, some_summary};
 use ff_outside::{Gate, Sink, Source};
@@ -52,6 +55,19 @@ fn prepare_check<S: Source>(alloc: Global, source: &mut S) -> Result<Outcome, Re
 {
     match read_all(alloc, source, MOST_CHECK_BYTES)? {
         Input::Whole(bytes) => Ok(check(alloc, &bytes)?),
+        Input::Beyond => Ok(refuse(alloc, Refusal::TooLong)?),
+    }
+}
+
+// The answer to `lines` and what the source gives.
+fn prepare_lines<S: Source>(alloc: Global, source: &mut S) -> Result<Outcome, ReadNo>
+    ensures answer { IfOk result (λ o. (input : List ℕ) × Tells (S.left source.old) input × AnswersDrawing input o.status (text_of o.writing)) }
+    ensures read_off { OnOk result (IsReadOff MOST_BYTES (S.left source.old) (S.left source.new)) }
+    ensures cause { IsErrOf result ReadNo.Failed → Rose (S.faults source.old) (S.faults source.new) (S.at_last source.new) }
+    ensures later { S.faults source.old ≤ S.faults source.new }
+{
+    match read_all(alloc, source, MOST_BYTES)? {
+        Input::Whole(bytes) => Ok(draw(alloc, &bytes)?),
         Input::Beyond => Ok(refuse(alloc, Refusal::TooLong)?),
     }
 }
@@ -96,6 +112,7 @@ fn prepare_job<S: Source>(
         Job::Solve { budget } => prepare_solve(alloc, budget, source),
         Job::Check => prepare_check(alloc, source),
         Job::Bench { .. } => Ok(usage(alloc)?),
+        Job::Lines => prepare_lines(alloc, source),
         Job::Make { count, budget } => Ok(make(alloc, count, budget)?),
     }
 }
@@ -242,6 +259,7 @@ pub fn one_answer()
     ensures { OneAnswer }
 {
     one_judgement();
+    one_drawing();
     one_summary();
 }
 
@@ -250,5 +268,6 @@ pub fn some_answer()
     ensures { SomeAnswer }
 {
     some_judgement();
+    some_drawing();
     some_summary();
 }

@@ -14,7 +14,7 @@ use Rattle.clap.specs.Kinds.{or_else}
 use Rattle.clap.specs.Faults.{settle_fault, turn_fault, walk_fault}
 use Rattle.clap.specs.declared.error.kind.ErrorKind.TheVariants.{ArgumentConflict}
 use Rattle.ff_words.specs.declared.jobs.Job.{Job}
-use Rattle.ff_words.specs.Form.{Choice, budget, workers, Said, option, word, others, values, said, said_at, said_next, more, by_name, word_of, with_value, name, whole, plain, job_of, job_at, setting, number, is_number, is_empty, budget_of, workers_of, solve_job, check_job, bench_job, make_job}
+use Rattle.ff_words.specs.Form.{Choice, budget, workers, Said, option, word, others, values, said, said_at, said_next, more, by_name, word_of, with_value, name, whole, plain, job_of, job_at, setting, number, is_number, is_empty, budget_of, workers_of, solve_job, check_job, bench_job, lines_job, make_job}
 use Rattle.ff_words.specs.Form as form
 use Rattle.ff_words.proofs.States.{shape, rules, mode, count, opt, id, rows, Pend, none, unmet, full, done, held, walk_at, FitsPend, settles, settle_none, has_values, nonempty, no_mode, no_count}
 use Rattle.ff_words.proofs.Steps.{turn_by, name_turn, whole_turn, repeated, value_turn, NotUnmet, place_turn_1, place_turn_2}
@@ -117,6 +117,12 @@ bench_small bs ks j h =
     let k = some_of_map _ (workers_of ks) j b.2 in
     (setting_small _ _ _ bs b.1, setting_small _ _ _ ks k.1)
 
+lines_small : (bs ks : List Text) (j : Job) → lines_job bs ks ≡ Some j → Small bs × Small ks
+lines_small bs ks j h = elim (chosen (is_empty bs && is_empty ks) _ _ _ h) [
+  | inl e ↦ let es = and_true (is_empty bs) (is_empty ks) e.0 in (empty_small bs es.0, empty_small ks es.1)
+  | inr e ↦ cc
+]
+
 make_small : (c : Text) (bs ks : List Text) (j : Job) → make_job c bs ks ≡ Some j → Small bs × Small ks × (is_bare c ≡ true)
 make_small c bs ks j h = elim (chosen (is_empty ks) _ _ _ h) [
   | inl e ↦
@@ -143,7 +149,10 @@ job_good (w ∷ []) bs ks j h = elim (chosen (bytes_eq w (codes "solve")) _ _ _ 
     | inl f ↦ let s = check_small bs ks j f.1 in record { two = omega arith; words = (literal_bare w _ refl f.0, tt); budgets = s.0; workers = s.1 }
     | inr f ↦ elim (chosen (bytes_eq w (codes "bench")) _ _ _ f.1) [
       | inl g ↦ let s = bench_small bs ks j g.1 in record { two = omega arith; words = (literal_bare w _ refl g.0, tt); budgets = s.0; workers = s.1 }
-      | inr g ↦ cc
+      | inr g ↦ elim (chosen (bytes_eq w (codes "lines")) _ _ _ g.1) [
+        | inl h ↦ let s = lines_small bs ks j h.1 in record { two = omega arith; words = (literal_bare w _ refl h.0, tt); budgets = s.0; workers = s.1 }
+        | inr h ↦ cc
+      ]
     ]
   ]
 ]

@@ -153,6 +153,10 @@ abbrev pub bench_job : List Text → List Text → Option Job
 bench_job bs ks =
     option_and_then (λ b. option_map (λ k. job.Bench b k) (workers_of ks)) (budget_of bs)
 
+-- lines takes no option
+abbrev pub lines_job : List Text → List Text → Option Job
+lines_job bs ks = if is_empty bs && is_empty ks then Some job.Lines else None
+
 -- make takes a count and a budget
 abbrev pub make_job : Text → List Text → List Text → Option Job
 make_job c bs ks = if is_empty ks
@@ -165,7 +169,8 @@ job_at [] bs ks = None
 job_at (w ∷ []) bs ks =
     if bytes_eq w (codes "solve") then solve_job bs ks
     else (if bytes_eq w (codes "check") then check_job bs ks
-    else (if bytes_eq w (codes "bench") then bench_job bs ks else None))
+    else (if bytes_eq w (codes "bench") then bench_job bs ks
+    else (if bytes_eq w (codes "lines") then lines_job bs ks else None)))
 job_at (w ∷ c ∷ []) bs ks = if bytes_eq w (codes "make") then make_job c bs ks else None
 job_at (w ∷ c ∷ x ∷ ws) bs ks = None
 

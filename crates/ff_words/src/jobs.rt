@@ -10,6 +10,7 @@ pub enum Job {
     Solve { budget: u64 },
     Check,
     Bench { budget: u64, workers: u32 },
+    Lines,
     Make { count: u32, budget: u64 },
 }
 

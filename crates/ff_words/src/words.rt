@@ -51,6 +51,7 @@ fn job_of_word(mode: &str, budget: Option<&str>, workers: Option<&str>) -> Optio
             budget: setting(budget, BUDGET, MOST_TURNS)?,
             workers: setting(workers, WORKERS, MOST_WORKERS)? as u32,
         }),
+        "lines" if budget.is_none() && workers.is_none() => Some(Job::Lines),
         _ => None,
     }
 }
@@ -90,7 +91,7 @@ fn has_dashes(words: &[String]) -> bool
 
 /// The job that the words after the program's name name: Usage exactly where they have no such form. An option is
 /// `--budget N` or `--budget=N`, `--workers N` or `--workers=N`, each at most once, at any place; N is one to ten decimal
-/// digits. Without the options the words are `solve`, `check`, `bench`, or `make COUNT`.
+/// digits. Without the options the words are `solve`, `check`, `bench`, `lines`, or `make COUNT`.
 pub fn read_words(alloc: Global, words: &[String]) -> Result<Job, WordsNo>
     ensures { MatchResult result (λ job. job_named (map string_bytes words.now) ≡ Some job) (Fails (job_named (map string_bytes words.now))) }
 {

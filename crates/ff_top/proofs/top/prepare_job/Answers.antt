@@ -13,6 +13,9 @@ returns-in_default-clause-answer g c = for_idle NoBench _ _ None _ _ c.in_defaul
 pub returns-in-Check-clause-answer : goal.returns-in-Check-clause-answer
 returns-in-Check-clause-answer g c = for_job NoBench _ _ _ _ (c.in-Some.is ∙ ap Some c.in-Check.is) c.prepare_check.ensures.answer
 
+pub returns-in-Lines-clause-answer : goal.returns-in-Lines-clause-answer
+returns-in-Lines-clause-answer g c = for_job NoBench _ _ _ _ (c.in-Some.is ∙ ap Some c.in-Lines.is) c.prepare_lines.ensures.answer
+
 pub returns-in_ok-usage-in-Bench-clause-answer : goal.returns-in_ok-usage-in-Bench-clause-answer
 returns-in_ok-usage-in-Bench-clause-answer g c = for_idle NoBench _ _ _ _ _ (c.in-Some.is ∙ ap Some c.in-Bench.is) (λ input. c.in_ok-usage-in-Bench.ensures)
 

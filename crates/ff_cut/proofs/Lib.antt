@@ -1,0 +1,6 @@
+mod Reading
+mod Items
+mod OneReading
+mod OnePattern
+mod SomePattern
+mod OneAnswer

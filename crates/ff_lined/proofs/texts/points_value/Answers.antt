@@ -1,0 +1,10 @@
+use Rattle.std.proofs.Common.{arith}
+use Rattle.ff_lined.specs.Texts.{point_data}
+use Rattle.ff_lined.proofs.Written.{written_all, written_more}
+use Rattle.ff_lined.proofs.texts.points_value.Goals as goal
+
+pub loop-i-preserved : goal.loop-i-preserved
+loop-i-preserved c = rw c.in_ok-push.ensures.items (written_more point_data c.args.points.now c.loop-i.i _ c.loop-i.list.items c.in_ok-point_value.field-0 c.loop-i-test.true c.loop-i.invariant c.in_ok-point_value.ensures)
+
+pub returns : goal.returns
+returns c = written_all point_data c.args.points.now c.loop-i.i c.loop-i.list (omega (arith, c.loop-i-test.false)) c.loop-i.invariant

@@ -1,0 +1,14 @@
+pub mod Dividing
+pub mod Cuts
+pub mod Sharing
+pub mod Letters
+pub mod Astride
+pub mod Nearness
+pub mod Touching
+pub mod TwoLines
+pub mod Gathers
+pub mod PointLists
+pub mod Ordered
+pub mod Edging
+pub mod HeadLists
+pub mod Patterns

@@ -1,0 +1,6 @@
+pub mod Lines
+pub mod Meetings
+pub mod Drawings
+pub mod Gathered
+pub mod Heads
+pub mod Laws

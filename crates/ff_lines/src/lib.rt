@@ -1,0 +1,13 @@
+//! Drawings of lines.
+#![tactic(auto)]
+
+mod cutting;
+mod drawing;
+mod gathering;
+mod items;
+mod laws;
+mod pairs;
+
+pub use drawing::draw;
+pub use items::{LineItem, MOST_LINES};
+pub use laws::{cuts_are_lines, drawings_keep_letters, edges_share_ends, wholes_by_division};
