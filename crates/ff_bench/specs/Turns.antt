@@ -18,7 +18,7 @@ use Rattle.ff_desk.specs.Views.{BaseView, DeskView}
 use Rattle.ff_bench.specs.Views.{PassView, WorkerView}
 use Rattle.ff_desk.specs.Demands.{IsDemanded}
 use Rattle.ff_desk.specs.Desks.{IsDesk, IsOpeningOf}
-use Rattle.ff_desk.specs.Steps.{AllPublished, PublishesOne, NoneOpen, IsLeastOpen}
+use Rattle.ff_desk.specs.Steps.{AllPublished, PublishesOne, NoneOpen, IsLeastOpen, turns_of}
 
 -- the seat stays the one that it is, has had more turns and has seen all that it had seen, and past that no entry names it
 pub record HasGone (old new : SeatView Entry BaseView) : Type 0 where
@@ -75,6 +75,10 @@ TurnTells first old new turn.Did = (IsIdle first → ⊥) × HasDone old new
 -- what a worker's turn answers
 abbrev pub TurnIs : BaseView → ℕ → List Entry → List Entry → Turn → Type 0
 TurnIs base number old new t = (first : DeskView) × IsGot base number old first × TurnTells first old new t
+
+-- So many turns all searches had visited in the value that was got; its journal is then all that was seen.
+abbrev pub TellsTurns : BaseView → ℕ → List Entry → List Entry → ℕ → Type 0
+TellsTurns base number old new n = (first : DeskView) × IsGot base number old first × (new ≡ first.journal) × (n ≡ turns_of first)
 
 -- ---- viewers
 

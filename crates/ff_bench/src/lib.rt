@@ -3,6 +3,7 @@
 
 mod acting;
 mod bench;
+mod counting;
 mod ending;
 mod opening;
 mod passes;

@@ -171,6 +171,7 @@ searched d ps qs turn.Did is e (p, (here, least), (g, w)) = (
   record {
     same = record { base = refl; journal = refl; givens = refl; facts = refl; home = refl; present = refl };
     demanded = refl;
+    earlier = refl;
     gone = record {
       before = g.before;
       after = g.after;

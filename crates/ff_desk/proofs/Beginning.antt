@@ -12,7 +12,8 @@ use Rattle.ff_journal.specs.declared.entries.Outcome.{Outcome}
 use Rattle.ff_journal.specs.Epochs.{last_begun, pins_after, pins_of, given_of_pin, givens_of}
 use Rattle.ff_journal.specs.Publications.{published}
 use Rattle.std.specs.List.{filter_map}
-use Rattle.ff_desk.specs.Views.{BaseView, HomeView, DeskView}
+use Rattle.ff_told.proofs.Earlier.{none_ordered}
+use Rattle.ff_desk.specs.Views.{BaseView, HomeView, DeskView, no_earlier}
 use Rattle.ff_desk.specs.Desks.{IsDesk, IsFew}
 use Rattle.ff_desk.specs.Opened.{IsBlank, IsFirstBoard}
 use Rattle.ff_desk.specs.Prepared.{IsHeld, IsPrepared}
@@ -23,7 +24,7 @@ no_entry : (i : ℕ) (e : Entry) → slice_get [] i ≡ Some e → ⊥
 no_entry i e h = cc
 
 pub blank_is : (b : BaseView) (fs : List (Option Fact)) (marks : List Bool) → IsFew b → fs ≡ replicate b.case.system.vars None
-    → IsDesk (record { base = b; journal = []; givens = []; facts = fs; home = None; present = None; pages = None; demanded = marks })
+    → IsDesk (record { base = b; journal = []; givens = []; facts = fs; home = None; present = None; pages = None; demanded = marks; earlier = no_earlier })
 blank_is b fs marks few empty = record {
   few = few;
   legal = record { each = λ i e h. absurd (no_entry i e h) };
@@ -35,6 +36,7 @@ blank_is b fs marks few empty = record {
   present = tt;
   pages = tt;
   demands = λ p d. no_entry d.place d.entry d.there;
+  earlier = (none_ordered b.case b.budget, omega arith, omega arith);
 }
 
 no_pins : (pairs : List (ℕ × ℕ)) → pins_after pairs [] ≡ []

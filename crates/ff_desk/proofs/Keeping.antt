@@ -30,9 +30,13 @@ use Rattle.ff_journal.specs.Journals.{IsSaid, commands_of, command_by}
 use Rattle.ff_journal.specs.Shown.{AreShown, AreFactsOf, AreOfBoard, NamesFit}
 use Rattle.ff_journal.proofs.Snoc.{legal_more, changes_same, givens_kept, begun_grows, outcomes_said, outcomes_published, last_more, last_said, named_said, named_published}
 use Rattle.ff_told.specs.Paged.{AreAllPages}
-use Rattle.ff_desk.specs.Views.{BaseView, HomeView, DeskView}
+use Rattle.ff_told.specs.Earlier.{AreOrdered}
+use Rattle.ff_told.proofs.Earlier.{all_ordered}
+use Rattle.ff_told.proofs.Filled.{pages_few}
+use Rattle.ff_desk.specs.Views.{BaseView, HomeView, EarlierView, DeskView}
 use Rattle.ff_desk.specs.Demands.{AreDemanded}
-use Rattle.ff_desk.specs.Desks.{IsDesk, IsKept, IsKeptOf, ContradictFrom, IsPresentOf, HasPresent, AreLastFacts, KeepsPages}
+use Rattle.ff_desk.specs.Desks.{IsDesk, IsKept, IsKeptOf, ContradictFrom, IsPresentOf, HasPresent, AreLastFacts, KeepsPages, KeepsEarlier}
+use Rattle.ff_desk.specs.Steps.{kept_after}
 use Rattle.ff_desk.proofs.Counts.{count_same, count_other}
 use Rattle.ff_desk.proofs.Demanding.{demanded_published}
 
@@ -141,9 +145,18 @@ said_keeps d viewer index said told marks is legal fit room demands =
       present = present_said d.base.case d.journal x d.facts d.present same is.present;
       pages = pages_said d.base.case d.base.budget d.journal viewer index said told d.facts d.pages is.order is.pages;
       demands = demands;
+      earlier = subst (λ n. KeepsEarlier d.base.case d.base.budget n d.pages d.earlier) (sym same) is.earlier;
     }
 
 -- ---- a publication
+
+-- the pages of the last board are kept from its publication on
+earlier_published : (case : Case) (budget : ℕ) (j more : List Entry) (fs : List (Option Fact)) (pages : Option (List Pages)) (e : EarlierView)
+    → published more ≡ published j + 1 → KeepsPages case budget j fs pages → KeepsEarlier case budget (published j) pages e
+    → KeepsEarlier case budget (published more) None (kept_after pages e)
+earlier_published case budget j more fs None e p keeps (ordered, few, spent) = (ordered, few, omega (arith, p, spent))
+earlier_published case budget j more fs (Some ps) e p (n, board, last, all) (none, spent) =
+    (all_ordered case budget (givens_of case j n) fs ps all, pages_few case budget (givens_of case j n) fs ps all, omega (arith, p, spent))
 
 pub published_one : (j : List Entry) (e : ℕ) (o : Outcome) → published (j ++ entry.Published e o ∷ []) ≡ published j + 1
 published_one j e o = ap (λ os. length os) (outcomes_published j e o) ∙ length-append (outcomes j) (o ∷ [])
@@ -196,7 +209,7 @@ last_outcome j n e o p l =
 
 -- the desk after a publication, with other givens and facts kept, if there are some
 abbrev pub published_in : DeskView → Outcome → List Given → List (Option Fact) → Option HomeView → DeskView
-published_in d o gs fs home = record d { journal = d.journal ++ entry.Published (published d.journal) o ∷ []; givens = gs; facts = fs; home = home; present = None; pages = None }
+published_in d o gs fs home = record d { journal = d.journal ++ entry.Published (published d.journal) o ∷ []; givens = gs; facts = fs; home = home; present = None; pages = None; earlier = kept_after d.pages d.earlier }
 
 -- an epoch is published whose givens contradict each other
 pub clash_keeps : (d : DeskView) (pins : List Pin) (log : Log) → IsDesk d → published d.journal ≤ last_begun d.journal
@@ -217,6 +230,7 @@ clash_keeps d pins log is begun clash right =
       present = tt;
       pages = tt;
       demands = demanded_published d.journal (published d.journal) o;
+      earlier = earlier_published d.base.case d.base.budget d.journal (d.journal ++ entry.Published (published d.journal) o ∷ []) d.facts d.pages d.earlier p is.pages is.earlier;
     }
   where
     no_board : (pins : List Pin) (log : Log) (board : List (Option Order)) → outcome.Impossible pins log ≡ outcome.Board board → ⊥
@@ -263,4 +277,5 @@ found_keeps d o gs fs home is begun right shown its agree rule of seen low =
       present = tt;
       pages = tt;
       demands = demanded_published d.journal n o;
+      earlier = earlier_published d.base.case d.base.budget d.journal (d.journal ++ x ∷ []) d.facts d.pages d.earlier p is.pages is.earlier;
     }

@@ -1,6 +1,7 @@
 -- Pages of a desk.
-use Rattle.std.proofs.Common.{◌≡◌, ℕ, zero, suc, ◌+◌, ◌-◌, ◌<◌, ◌≤◌, inl, inr, Bool, true, false, List, [], ◌∷◌, ◌++◌, length, replicate, get_or, map, sym, refl, ap, ◌∙◌, subst, arith, Option, Some, None}
+use Rattle.std.proofs.Common.{◌≡◌, ℕ, zero, suc, ◌+◌, ◌-◌, ◌*◌, ◌^◌, ◌<◌, ◌≤◌, inl, inr, Bool, true, false, List, [], ◌∷◌, ◌++◌, length, replicate, get_or, map, sym, refl, ap, ◌∙◌, subst, arith, Option, Some, None}
 use Rattle.ff_tables.specs.declared.orders.Order.{Order}
+use Rattle.ff_tables.specs.declared.givens.Given.{Given}
 use Rattle.ff_types.specs.declared.cases.Case.{Case}
 use Rattle.ff_propagate.specs.declared.facts.Fact.{Fact}
 use Rattle.ff_propagate.specs.Boards.{IsBoardOf}
@@ -14,15 +15,19 @@ use Rattle.ff_journal.specs.Epochs.{givens_of}
 use Rattle.ff_journal.specs.Publications.{published, IsLast}
 use Rattle.ff_journal.proofs.LastPublished.{value_is, shown_board}
 use Rattle.ff_told.specs.Paged.{AreAllPages, KeepAllPages, ShowsBoard, parts_of}
+use Rattle.ff_told.specs.Earlier.{turns_in, AreUnvisited, AreOrdered, AreAlongside}
 use Rattle.ff_told.proofs.Kept.{AreKept}
-use Rattle.ff_told.proofs.Filled.{parts_long}
+use Rattle.ff_told.proofs.Earlier.{unvisited_turns, turns_most, all_ordered, none_ordered}
+use Rattle.ff_told.proofs.Filled.{parts_long, pages_few}
 use Rattle.ff_desk.specs.declared.demands.Demand.{Demand}
 use Rattle.ff_desk.specs.declared.demands.Demand.TheVariants as demand
-use Rattle.ff_desk.specs.Views.{DeskView}
+use Rattle.ff_desk.specs.Views.{EarlierView, DeskView}
 use Rattle.ff_desk.specs.Demands.{Demands, demand_of, IsDemanded, AreDemanded}
-use Rattle.ff_desk.specs.Desks.{IsDesk, KeepsPages}
+use Rattle.ff_desk.specs.Desks.{IsDesk, KeepsPages, KeepsEarlier}
 use Rattle.ff_desk.specs.Prepared.{IsLaidFor}
+use Rattle.ff_desk.specs.Steps.{turns_laid, kept_after}
 use Rattle.ff_desk.specs.Marks.{IsMarked, AreMarked}
+use Rattle.ff_desk.proofs.Counts.{few}
 use Rattle.ff_desk.proofs.Demanding.{demanded_said, demanded_before, demanded_here}
 
 -- the facts of the last board are a board
@@ -40,13 +45,16 @@ flag_false zero p e = cc
 flag_false (suc n) zero e = cc
 flag_false (suc n) (suc p) e = flag_false n p e
 
-pub laid_keeps : (d : DeskView) (list : List Pages) (marks : List Bool) → IsDesk d → d.pages ≡ None → ShowsBoard d.journal
-    → AreAllPages d.base.case d.base.budget (givens_of d.base.case d.journal (published d.journal - 1)) d.facts list → marks ≡ replicate (length list) false
-    → IsDesk (record d { pages = Some list; demanded = marks })
-laid_keeps d list marks is none (e, board, l) all are =
+pub laid_keeps : (d : DeskView) (list more : List Pages) (marks : List Bool) (e : EarlierView) → IsDesk d → d.pages ≡ None → ShowsBoard d.journal
+    → AreAllPages d.base.case d.base.budget (givens_of d.base.case d.journal (published d.journal - 1)) d.facts list → KeepAllPages d.base.case list more
+    → AreUnvisited list → marks ≡ replicate (length list) false → e.pages ≡ []
+    → turns_in more + e.spent ≡ turns_in list + turns_in d.earlier.pages + d.earlier.spent
+    → IsDesk (record d { pages = Some more; demanded = marks; earlier = e })
+laid_keeps d list more marks e is none (n, board, l) all keep new are gone turns =
     let nobody = subst (λ p. AreDemanded d.journal p d.demanded) none is.demands in
     let c = l.counted in
-    let same : published d.journal - 1 ≡ e = omega (arith, c) in record {
+    let same : published d.journal - 1 ≡ n = omega (arith, c) in
+    let long : length more ≡ length list = sym (parts_long more) ∙ ap (λ (xs : List (List ℕ)). length xs) keep.parts ∙ parts_long list in record {
       few = is.few;
       legal = is.legal;
       order = is.order;
@@ -55,11 +63,25 @@ laid_keeps d list marks is none (e, board, l) all are =
       low = is.low;
       read = is.read;
       present = is.present;
-      pages = (e, board, l, subst (λ n. AreAllPages d.base.case d.base.budget (givens_of d.base.case d.journal n) d.facts list) same all);
+      pages = (
+        n,
+        board,
+        l,
+        keep.all d.base.budget (givens_of d.base.case d.journal n) d.facts
+            (subst (λ k. AreAllPages d.base.case d.base.budget (givens_of d.base.case d.journal k) d.facts list) same all),
+      );
       demands = (
-        ap (λ xs. length xs) are ∙ flags_long (length list),
+        ap (λ xs. length xs) are ∙ flags_long (length list) ∙ sym long,
         λ p l. (λ m. absurd (flag_false (length list) p (subst (λ xs. get_or xs p false ≡ true) are m)), λ m. absurd (nobody p m)),
       );
+      earlier =
+          let was = subst (λ x. KeepsEarlier d.base.case d.base.budget (published d.journal) x d.earlier) none is.earlier in
+          let ordered = was.0 in
+          let many = was.1 in
+          let spent = was.2 in
+          let vars = is.few.vars in
+          let t = turns_most d.base.case.system.vars d.base.case.system.constraints d.earlier.pages ordered.stand in
+          let z = unvisited_turns list new in (gone, omega (arith, turns, t, z, many, vars, spent, c));
     }
 
 -- ---- pages go on
@@ -101,6 +123,7 @@ pages_on d ps more is e keep =
       present = is.present;
       pages = (k.epoch, k.board, k.last, keep.all d.base.budget (givens_of d.base.case d.journal k.epoch) d.facts k.all);
       demands = (old.0 ∙ sym long, λ p l. old.1 p (omega (arith, l, long)));
+      earlier = subst (λ x. KeepsEarlier d.base.case d.base.budget (published d.journal) x d.earlier) e is.earlier;
     }
 
 -- ---- what an entry demands is marked
@@ -132,3 +155,64 @@ entered_demands j viewer index said told (Some ps) old new laid (long, were) mar
         ]),
       ),
 )
+
+-- ---- turns
+
+-- a publication drops no search
+pub turns_kept : (case : Case) (budget n : ℕ) (pages : Option (List Pages)) (e : EarlierView) → KeepsEarlier case budget n pages e
+    → (kept_after pages e).spent + turns_in (kept_after pages e).pages + turns_laid None ≡ e.spent + turns_in e.pages + turns_laid pages
+turns_kept case budget n None e keeps = refl
+turns_kept case budget n (Some ps) e (none, spent) = let z : turns_in e.pages ≡ 0 = ap turns_in none in omega (arith, z)
+
+-- the turns of a desk are few
+pub turns_fit : (d : DeskView) → IsDesk d → (d.earlier.spent + turns_in d.earlier.pages + turns_laid d.pages < 2 ^ 63) × (length d.earlier.pages < 2 ^ 32)
+turns_fit d is = by d.pages is.earlier is.pages
+  where
+    n : published d.journal ≤ 1025
+    n = let f = (few d.base.lengths d.journal is.within is.order).1 in let t = is.few.commands in omega (arith, f, t)
+
+    by : (pages : Option (List Pages)) → KeepsEarlier d.base.case d.base.budget (published d.journal) pages d.earlier
+        → KeepsPages d.base.case d.base.budget d.journal d.facts pages
+        → (d.earlier.spent + turns_in d.earlier.pages + turns_laid pages < 2 ^ 63) × (length d.earlier.pages < 2 ^ 32)
+    by None (ordered, many, spent) keeps =
+        let t = turns_most d.base.case.system.vars d.base.case.system.constraints d.earlier.pages ordered.stand in
+        let vars = is.few.vars in (omega (arith, n, t, many, vars, spent), omega (arith, many, vars))
+    by (Some ps) (none, spent) (e, board, l, all) =
+        let z : turns_in d.earlier.pages ≡ 0 = ap turns_in none in
+        let y : length d.earlier.pages ≡ 0 = ap (λ (xs : List Pages). length xs) none in
+        let t = turns_most d.base.case.system.vars d.base.case.system.constraints ps (all_ordered d.base.case d.base.budget (givens_of d.base.case d.journal e) d.facts ps all).stand in
+        let many = pages_few d.base.case d.base.budget (givens_of d.base.case d.journal e) d.facts ps all in
+        let vars = is.few.vars in (omega (arith, n, z, t, many, vars, spent), omega (arith, y))
+
+pub ordered_earlier : (d : DeskView) → IsDesk d → (budget : ℕ) × AreOrdered d.base.case budget d.earlier.pages
+ordered_earlier d is = by d.pages is.earlier
+  where
+    by : (pages : Option (List Pages)) → KeepsEarlier d.base.case d.base.budget (published d.journal) pages d.earlier → (budget : ℕ) × AreOrdered d.base.case budget d.earlier.pages
+    by None keeps = (d.base.budget, keeps.0)
+    by (Some ps) keeps = (d.base.budget, subst (λ xs. AreOrdered d.base.case d.base.budget xs) (sym keeps.0) (none_ordered d.base.case d.base.budget))
+
+pub ordered_laid : (d : DeskView) (ps : List Pages) → IsDesk d → d.pages ≡ Some ps → ((budget : ℕ) × AreOrdered d.base.case budget ps) × (length ps < 2 ^ 32)
+ordered_laid d ps is e =
+    let k = are_kept d ps is e in
+    let many = pages_few d.base.case d.base.budget (givens_of d.base.case d.journal k.epoch) d.facts ps k.all in
+    let vars = is.few.vars in
+    ((d.base.budget, all_ordered d.base.case d.base.budget (givens_of d.base.case d.journal k.epoch) d.facts ps k.all), omega (arith, many, vars))
+
+-- new pages beside those that are kept
+pub ordered_both : (d : DeskView) (list : List Pages) (gs : List Given) → IsDesk d → d.pages ≡ None → AreAllPages d.base.case d.base.budget gs d.facts list
+    → AreAlongside d.base.case list d.earlier.pages
+ordered_both d list gs is none all =
+    let was = subst (λ x. KeepsEarlier d.base.case d.base.budget (published d.journal) x d.earlier) none is.earlier in
+    (d.base.budget, all_ordered d.base.case d.base.budget gs d.facts list all, was.0)
+
+pub room_for : (d : DeskView) (list : List Pages) → IsDesk d → AreUnvisited list → d.earlier.spent + turns_in d.earlier.pages + turns_in list < 2 ^ 64
+room_for d list is new = let f = (turns_fit d is).0 in let z = unvisited_turns list new in omega (arith, f, z)
+
+-- those of searches that are dropped once pages are laid are counted
+pub turns_moved : (was e : EarlierView) (pages : Option (List Pages)) (list more : List Pages) → pages ≡ None → AreUnvisited list → e.pages ≡ []
+    → turns_in more + e.spent ≡ turns_in list + turns_in was.pages + was.spent
+    → e.spent + turns_in e.pages + turns_in more ≡ was.spent + turns_in was.pages + turns_laid pages
+turns_moved was e pages list more none new gone turns =
+    let a : turns_laid pages ≡ 0 = ap turns_laid none in
+    let b : turns_in e.pages ≡ 0 = ap turns_in gone in
+    let z = unvisited_turns list new in omega (arith, turns, a, b, z)

@@ -203,6 +203,7 @@ held_keeps d home is p = record {
   present = p;
   pages = is.pages;
   demands = is.demands;
+  earlier = is.earlier;
 }
 
 -- a board that was opened with carried facts

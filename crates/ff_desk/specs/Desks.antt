@@ -1,5 +1,5 @@
 -- What each desk keeps. This project's own.
-use Rattle.std.specs.Prelude.{◌≡◌, ℕ, ◌+◌, ◌*◌, ◌^◌, ◌<◌, ◌≤◌, Bool, List, [], length, replicate, slice_index, Option, Some, None}
+use Rattle.std.specs.Prelude.{◌≡◌, ℕ, ◌+◌, ◌-◌, ◌*◌, ◌^◌, ◌<◌, ◌≤◌, Bool, List, [], length, replicate, slice_index, Option, Some, None}
 use Rattle.std.specs.Arc.{arc_value}
 use Rattle.ff_tables.specs.declared.orders.Order.{Order}
 use Rattle.ff_tables.specs.declared.givens.Given.{Given}
@@ -20,7 +20,8 @@ use Rattle.ff_journal.specs.Publications.{published, IsLast}
 use Rattle.ff_journal.specs.Journals.{IsLegal, commands_of}
 use Rattle.ff_journal.specs.Shown.{AreShown}
 use Rattle.ff_told.specs.Paged.{AreAllPages}
-use Rattle.ff_desk.specs.Views.{BaseView, HomeView, DeskView, total}
+use Rattle.ff_told.specs.Earlier.{AreOrdered}
+use Rattle.ff_desk.specs.Views.{BaseView, HomeView, EarlierView, DeskView, total}
 use Rattle.ff_desk.specs.Demands.{AreDemanded}
 
 -- Few enough: at most 2^18 variables, 2^22 constraints and fewer than 2^21 starts; a budget of at most a thousand million turns; at most
@@ -86,6 +87,17 @@ KeepsPages case budget journal fs None = Unit {0}
 KeepsPages case budget journal fs (Some pages) = (e : ℕ) × (board : List (Option Order)) × IsLast journal e (outcome.Board board)
     × AreAllPages case budget (givens_of case journal e) fs pages
 
+-- the turns that the searches of one board visit at most: a thousand million for each of at most 2^18 parts
+abbrev pub most_turns : ℕ
+most_turns = 262144000000000
+
+-- What is kept of an earlier board, where n epochs are published, and the pages of the last board are laid or not: pages of different
+-- parts of the case, for this budget, no more than variables; none once pages are laid. The turns of what was dropped are those of as
+-- many boards as were laid.
+abbrev pub KeepsEarlier : Case → ℕ → ℕ → Option (List Pages) → EarlierView → Type 0
+KeepsEarlier case budget n None e = AreOrdered case budget e.pages × (length e.pages ≤ case.system.vars) × (e.spent ≤ (n - 1) * most_turns)
+KeepsEarlier case budget n (Some pages) e = (e.pages ≡ []) × (e.spent ≤ n * most_turns)
+
 -- The journal is legal, and no viewer has more entries than its script is long.
 pub record IsDesk (d : DeskView) : Type 0 where
   pub few : IsFew d.base
@@ -98,3 +110,4 @@ pub record IsDesk (d : DeskView) : Type 0 where
   pub present : HasPresent d.base.case d.journal d.facts d.present
   pub pages : KeepsPages d.base.case d.base.budget d.journal d.facts d.pages
   pub demands : AreDemanded d.journal d.pages d.demanded
+  pub earlier : KeepsEarlier d.base.case d.base.budget (published d.journal) d.pages d.earlier

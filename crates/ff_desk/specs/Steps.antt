@@ -17,7 +17,8 @@ use Rattle.ff_desk.specs.declared.loans.Lent.{Lent}
 use Rattle.ff_desk.specs.declared.loans.Lent.TheVariants as lent
 use Rattle.ff_desk.specs.declared.loans.Turn.{Turn}
 use Rattle.ff_desk.specs.declared.loans.Turn.TheVariants as turn
-use Rattle.ff_desk.specs.Views.{DeskView}
+use Rattle.ff_told.specs.Earlier.{SomeKeeps, turns_in}
+use Rattle.ff_desk.specs.Views.{EarlierView, DeskView}
 use Rattle.ff_desk.specs.Demands.{IsOpenAt, HasPages}
 use Rattle.ff_desk.specs.Desks.{IsOpeningOf}
 
@@ -52,8 +53,9 @@ pub record IsSameButPresent (old new : DeskView) : Type 0 where
   pub home : new.home ≡ old.home
   pub pages : new.pages ≡ old.pages
   pub demanded : new.demanded ≡ old.demanded
+  pub earlier : new.earlier ≡ old.earlier
 
--- all is the same but the pages and which are demanded
+-- all is the same but the pages, which are demanded, and what is kept of earlier ones
 pub record IsSameButPages (old new : DeskView) : Type 0 where
   pub base : new.base ≡ old.base
   pub journal : new.journal ≡ old.journal
@@ -61,6 +63,28 @@ pub record IsSameButPages (old new : DeskView) : Type 0 where
   pub facts : new.facts ≡ old.facts
   pub home : new.home ≡ old.home
   pub present : new.present ≡ old.present
+
+-- ---- turns
+
+-- the turns that the searches of laid pages have visited
+abbrev pub turns_laid : Option (List Pages) → ℕ
+turns_laid None = 0
+turns_laid (Some pages) = turns_in pages
+
+-- the turns that all searches have visited, those whose pages were dropped included
+abbrev pub turns_of : DeskView → ℕ
+turns_of d = d.earlier.spent + turns_in d.earlier.pages + turns_laid d.pages
+
+-- what is kept of earlier boards once an epoch is published: the pages that were laid, or where none were, what was kept before
+abbrev pub kept_after : Option (List Pages) → EarlierView → EarlierView
+kept_after None e = e
+kept_after (Some pages) e = record { pages = pages; spent = e.spent }
+
+-- Each of the laid pages has visited what the earlier search has visited whose pages can be kept for its part, and nothing where there
+-- is none.
+abbrev pub AreLaidAfter : List Constraint → List Pages → Option (List Pages) → Type 0
+AreLaidAfter cons earlier laid = (i : ℕ) (p : Pages) → HasPages laid i p
+    → ((k : SomeKeeps cons earlier 0 p) → visited_of p ≡ visited_of k.pages) × ((SomeKeeps cons earlier 0 p → ⊥) → visited_of p ≡ 0)
 
 -- ---- the search
 
@@ -86,6 +110,7 @@ pub record HasGoneOn (p : ℕ) (old new : Option (List Pages)) : Type 0 where
 pub record IsSearched (d new : DeskView) (p : ℕ) : Type 0 where
   pub same : IsSameButPages d new
   pub demanded : new.demanded ≡ d.demanded
+  pub earlier : new.earlier ≡ d.earlier
   pub gone : HasGoneOn p d.pages new.pages
   pub ran : RunsTo d.base.case.system.constraints
       (min (length gone.before.part.vars * visited_of gone.before + max 4096 (length gone.before.part.vars)) gone.before.budget) gone.after

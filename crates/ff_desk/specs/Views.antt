@@ -19,9 +19,19 @@ pub record HomeView : Type 0 where
   pub board : BoardView
   pub seat : SeatView
 
+-- pages of an earlier board that are kept until those of a later one are laid, and the turns that searches had visited whose pages
+-- were dropped
+pub record EarlierView : Type 0 where
+  pub pages : List Pages
+  pub spent : ℕ
+
+-- nothing is kept of an earlier board, and nothing was dropped
+abbrev pub no_earlier : EarlierView
+no_earlier = record { pages = []; spent = 0 }
+
 -- The base; the journal; the givens and facts that are kept, and the board and seat that they are of, or none; the board of the least
 -- unpublished epoch, if it is there; the pages of the last published board's parts, once one was asked for, and for each of these parts
--- whether it is demanded.
+-- whether it is demanded; and what is kept of an earlier board's pages.
 pub record DeskView : Type 0 where
   pub base : BaseView
   pub journal : List Entry
@@ -31,6 +41,7 @@ pub record DeskView : Type 0 where
   pub present : Option HomeView
   pub pages : Option (List Pages)
   pub demanded : List Bool
+  pub earlier : EarlierView
 
 -- a board that is lent, of this epoch, with a seat of it
 pub record LoanView : Type 0 where

@@ -5,7 +5,7 @@ ghost use Rattle.ff_journal.specs.Epochs.{last_begun, givens_of};
 ghost use Rattle.ff_journal.specs.Publications.{published as epochs_published};
 ghost use Rattle.ff_told.specs.Ends.{IsRefutedBy};
 ghost use Rattle.ff_desk.specs.Desks.{IsOpeningOf};
-ghost use Rattle.ff_desk.specs.Steps.{Steps, PublishesOne, BringIs};
+ghost use Rattle.ff_desk.specs.Steps.{Steps, PublishesOne, BringIs, turns_of};
 
 use crate::desk::Desk;
 use crate::home::Home;
@@ -22,13 +22,14 @@ impl Desk {
         requires outcome { IsRefutedBy self.old.base.case (givens_of self.old.base.case self.old.journal (epochs_published self.old.journal)) outcome }
         ensures base { self.new.base ≡ self.old.base }
         ensures published { OnOk result (PublishesOne self.old.journal self.new.journal) }
+        ensures turns { turns_of self.new ≡ turns_of self.old }
         ensures err { OnErr result (self.new ≡ self.old) }
     {
         // the pairs are in order
         let _ = self.base.case().pairs.count();
         self.journal.push(Entry::Published { epoch, outcome })?;
         self.present = None;
-        self.pages = None;
+        self.earlier.hold(self.pages.take());
         Ok(())
     }
 
@@ -38,6 +39,7 @@ impl Desk {
         requires epoch { found.epoch ≡ epochs_published self.old.journal }
         ensures base { self.new.base ≡ self.old.base }
         ensures published { OnOk result (PublishesOne self.old.journal self.new.journal) }
+        ensures turns { turns_of self.new ≡ turns_of self.old }
         ensures err { OnErr result (self.new ≡ self.old) }
     {
         // the pairs are in order
@@ -55,7 +57,7 @@ impl Desk {
         self.facts = facts;
         self.home = Some(Home::of(board, seat));
         self.present = None;
-        self.pages = None;
+        self.earlier.hold(self.pages.take());
         Ok(())
     }
 
@@ -64,6 +66,7 @@ impl Desk {
         requires opening { IsOpeningOf self.old.base.case self.old.journal found.epoch found.opening }
         ensures base { self.new.base ≡ self.old.base }
         ensures step { Steps self.old.journal self.new.journal }
+        ensures turns { turns_of self.new ≡ turns_of self.old }
         ensures brought { IfOk result (λ _. BringIs found.epoch self.old self.new) }
         ensures err { IfErr result (λ _. self.new ≡ self.old) }
     {

@@ -3,9 +3,10 @@ ghost use Rattle.std.specs.Prelude.{◌≡◌, ◌≤◌, IsTrue, false};
 ghost use Rattle.ff_journal.specs.Epochs.{last_begun};
 ghost use Rattle.ff_journal.specs.Publications.{published as epochs_published};
 ghost use Rattle.ff_desk.specs.Desks.{IsDesk};
-ghost use Rattle.ff_desk.specs.Steps.{AllPublished};
+ghost use Rattle.ff_desk.specs.Steps.{AllPublished, turns_laid as turns_in_laid, turns_of};
 
 use crate::base::Base;
+use crate::earlier::Earlier;
 use crate::home::Home;
 use crate::laid::Laid;
 use ff_door::Kept;
@@ -16,7 +17,8 @@ use std::marker::Model;
 
 /// The value behind the door of a workbench. Contracts see its base, its journal, the givens and facts that are kept of the last
 /// published epoch whose givens don't contradict each other, a board of that epoch and its seat, the board of the least unpublished
-/// epoch, the pages of the last published board, and which parts are demanded. Its type keeps that the journal is legal and that
+/// epoch, the pages of the last published board, which parts are demanded, and what is
+/// kept of an earlier board's pages. Its type keeps that the journal is legal and that
 /// no viewer has more entries than its script is long.
 #[derive(Drop)]
 pub struct Desk {
@@ -28,6 +30,7 @@ pub struct Desk {
     pub(crate) present: Option<Home>,
     pub(crate) pages: Option<Laid>,
     pub(crate) demanded: Vec<bool>,
+    pub(crate) earlier: Earlier,
 }
 
 impl Model for Desk {
@@ -36,9 +39,9 @@ impl Model for Desk {
 
     ghost Value = { DeskView };
 
-    ghost view = { λ d. record { base = d.base; journal = d.journal; givens = d.givens; facts = d.facts; home = d.home; present = d.present; pages = d.pages; demanded = d.demanded.items } };
+    ghost view = { λ d. record { base = d.base; journal = d.journal; givens = d.givens; facts = d.facts; home = d.home; present = d.present; pages = d.pages; demanded = d.demanded.items; earlier = d.earlier } };
 
-    ghost invariant = { λ d. IsDesk (record { base = d.base; journal = d.journal; givens = d.givens; facts = d.facts; home = d.home; present = d.present; pages = d.pages; demanded = d.demanded.items }) };
+    ghost invariant = { λ d. IsDesk (record { base = d.base; journal = d.journal; givens = d.givens; facts = d.facts; home = d.home; present = d.present; pages = d.pages; demanded = d.demanded.items; earlier = d.earlier }) };
 }
 
 impl Kept for Desk {
@@ -89,6 +92,24 @@ impl Desk {
         ensures few { result ≤ 1024 }
     {
         begun(self.journal.as_slice())
+    }
+
+    /// The turns of the nodes that all searches have visited, those whose pages were dropped included. It takes no memory.
+    pub fn turns(&self) -> u64
+        ensures { result ≡ turns_of self.now }
+    {
+        let laid = self.turns_laid();
+        self.earlier.turns(self.base.case()) + laid
+    }
+
+    // Those of the laid pages.
+    fn turns_laid(&self) -> u64
+        ensures { result ≡ turns_in_laid self.now.pages }
+    {
+        match &self.pages {
+            Some(pages) => pages.turns(self.base.case()),
+            None => 0,
+        }
     }
 
     // Whether every epoch begun is published.

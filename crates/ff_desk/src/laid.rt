@@ -1,12 +1,13 @@
 //! The pages of all parts of a board.
-ghost use Rattle.std.specs.Prelude.{◌≡◌, ◌<◌, ◌^◌, IfOk, length};
+ghost use Rattle.std.specs.Prelude.{◌≡◌, ℕ, ◌<◌, ◌^◌, IfOk, length};
 ghost use Rattle.ff_told.specs.Paged.{HavePages, KeepAllPages, IsPageToldAt};
+ghost use Rattle.ff_told.specs.Earlier.{AreOrdered, turns_in};
 ghost use Rattle.ff_told.specs.Stacked.{AreFactsIn, IsStackTold};
 
 use ff_pages::Pages;
 use ff_propagate::Facts;
 use ff_tables::NoMemory;
-use ff_told::{page_told, stack_told};
+use ff_told::{page_told, stack_told, turns_of};
 use ff_types::Case;
 use ff_viewer::Reply;
 use std::alloc::Global;
@@ -39,6 +40,22 @@ impl Laid {
         ensures { result ≡ length self.now }
     {
         self.list.len()
+    }
+
+    /// The turns that the searches have visited.
+    pub(crate) fn turns(&self, case: &Case) -> u64
+        requires ordered { (budget : ℕ) × AreOrdered case.now budget self.now }
+        requires few { length self.now < 2 ^ 32 }
+        ensures { result ≡ turns_in self.now }
+    {
+        turns_of(case, self.list.as_slice())
+    }
+
+    /// The list.
+    pub(crate) fn into_list(self) -> Vec<Pages>
+        ensures { result.items ≡ self }
+    {
+        self.list
     }
 
     /// The reply to `page`.

@@ -6,6 +6,7 @@ mod base;
 mod bringing;
 mod demands;
 mod desk;
+mod earlier;
 mod ending;
 mod examining;
 mod home;

@@ -7,6 +7,7 @@ ghost use Rattle.ff_desk.specs.Steps.{IsSameButPresent};
 
 use crate::base::Base;
 use crate::desk::Desk;
+use crate::earlier::Earlier;
 use ff_journal::Outcome;
 use ff_propagate::Facts;
 use ff_tables::{Items, NoMemory};
@@ -60,6 +61,7 @@ impl Desk {
             present: None,
             pages: None,
             demanded: Vec::new(alloc),
+            earlier: Earlier::none(alloc),
         })
     }
 

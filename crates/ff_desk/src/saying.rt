@@ -12,7 +12,7 @@ ghost use Rattle.ff_journal.specs.Answering.{IsPlain};
 ghost use Rattle.ff_told.specs.Paged.{ShowsBoard, AnswersLast};
 ghost use Rattle.ff_desk.specs.Demands.{demand_of as demanded_by};
 ghost use Rattle.ff_desk.specs.Prepared.{IsLaid, IsLaidFor};
-ghost use Rattle.ff_desk.specs.Steps.{IsSameButPages, SaidIs};
+ghost use Rattle.ff_desk.specs.Steps.{IsSameButPages, SaidIs, AreLaidAfter, turns_of};
 
 use crate::demands::{demand_of, mark};
 use crate::desk::Desk;
@@ -24,12 +24,14 @@ use ff_viewer::{Command, Question, Reply};
 use std::alloc::Global;
 
 impl Desk {
-    // The pages of all parts are made.
+    // The pages of all parts are made. What those of an earlier board found is kept where it can be.
     fn lay_all(&mut self, alloc: Global) -> Result<(), NoMemory>
         requires board { ShowsBoard self.old.journal }
         requires none { self.old.pages ≡ None }
         ensures same { IsSameButPages self.old self.new }
         ensures laid { OnOk result (IsLaid self.new.pages) }
+        ensures kept { OnOk result (AreLaidAfter self.old.base.case.system.constraints self.old.earlier.pages self.new.pages) }
+        ensures turns { turns_of self.new ≡ turns_of self.old }
     {
         let list = all_pages(
             alloc,
@@ -39,7 +41,10 @@ impl Desk {
             &self.facts,
         )?;
         let marks = vec![in alloc; false; list.len()]?;
-        self.pages = Some(Laid::of(list));
+        let case = self.base.case();
+        let mut laid = Laid::of(list);
+        self.earlier.move_to(case, &mut laid);
+        self.pages = Some(laid);
         self.demanded = marks;
         Ok(())
     }
@@ -49,6 +54,7 @@ impl Desk {
         requires board { ShowsBoard self.old.journal }
         ensures same { IsSameButPages self.old self.new }
         ensures laid { OnOk result (IsLaid self.new.pages) }
+        ensures turns { turns_of self.new ≡ turns_of self.old }
     {
         match &self.pages {
             Some(_) => Ok(()),

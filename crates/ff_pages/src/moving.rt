@@ -1,10 +1,10 @@
 //! Pages are kept for other facts.
-ghost use Rattle.std.specs.Prelude.{◌≡◌, ◌↔◌, ℕ, ◌*◌, IsTrue, length};
+ghost use Rattle.std.specs.Prelude.{◌≡◌, ◌↔◌, ◌*◌, IsTrue, length, slice_index};
 ghost use Rattle.ff_propagate.specs.Boards.{IsBoardOf};
 ghost use Rattle.ff_propagate.specs.Facts.{value_at};
 ghost use Rattle.ff_propagate.specs.Parts.{IsPart};
 ghost use Rattle.ff_alike.specs.Alike.{HaveSameRim};
-ghost use Rattle.ff_pages.specs.Paging.{StandsIn, CanKeep, visited_of};
+ghost use Rattle.ff_pages.specs.Paging.{StandsIn, CanKeep, IsSamePages, visited_of};
 
 use crate::pages::Pages;
 use crate::rims::same_rim;
@@ -57,6 +57,51 @@ impl Pages {
             budget: self.budget,
             search: self.search,
             found: self.found,
+        }
+    }
+
+    /// What pages that can be kept for this part have found and visited is taken over, and what these have is dropped: the turns of the
+    /// nodes that it visited. Givens and facts stay. It takes no memory.
+    pub fn take_over(&mut self, case: &Case, earlier: Pages) -> u64
+        requires stands { StandsIn case.now.system.vars case.now.system.constraints self.old }
+        requires earlier { StandsIn case.now.system.vars case.now.system.constraints earlier }
+        requires budget { earlier.budget ≡ self.old.budget }
+        requires same { CanKeep case.now.system.constraints earlier (value_at self.old.facts.value) self.old.part.vars }
+        ensures stands { StandsIn case.now.system.vars case.now.system.constraints self.new }
+        ensures same { IsSamePages self.old self.new }
+        ensures found { self.new.found.items ≡ earlier.found.items }
+        ensures visited { visited_of self.new ≡ visited_of earlier }
+        ensures dropped { result ≡ length self.old.part.vars * visited_of self.old }
+    {
+        let _ = case;
+        let dropped = self.spent();
+        let Pages { search, found, .. } = earlier;
+        self.search = search;
+        self.found = found;
+        dropped
+    }
+
+    /// The facts. It takes no memory.
+    pub fn facts(&self) -> &Facts
+        ensures { result.now ≡ self.now.facts.value }
+    {
+        &self.facts
+    }
+
+    /// The part. It takes no memory.
+    pub fn part(&self) -> &Part
+        ensures { result.now ≡ self.now.part }
+    {
+        &self.part
+    }
+
+    /// The least variable of the part. It takes no memory.
+    pub fn least(&self) -> u32
+        ensures { result ≡ slice_index self.now.part.vars 0 }
+    {
+        match self.part.vars.as_slice().first() {
+            Some(var) => *var,
+            None => 0,
         }
     }
 }

@@ -3,3 +3,4 @@ pub mod Kept
 pub mod Choosing
 pub mod Filled
 pub mod Asked
+pub mod Earlier

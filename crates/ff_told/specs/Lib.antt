@@ -1,3 +1,4 @@
 pub mod Paged
 pub mod Stacked
 pub mod Ends
+pub mod Earlier

@@ -7,6 +7,8 @@ ghost use Rattle.ff_propagate.specs.declared.parts.Part.{Part as PartSpec};
 ghost use Rattle.ff_journal.specs.Epochs.{givens_of as epoch_givens, last_begun};
 ghost use Rattle.ff_journal.specs.Publications.{published as epochs_published};
 ghost use Rattle.ff_told.specs.Paged.{AreAllPages, ArePagesOf, AreLaid, HavePages, KeepAllPages, IsPageAt, IsPageToldAt, reply_of};
+ghost use Rattle.ff_told.specs.Earlier.{AreUnvisited};
+ghost use Rattle.ff_pages.specs.Paging.{visited_of};
 
 use ff_journal::{Entry, givens_of, published};
 use ff_pages::{PageAnswer, Pages};
@@ -33,6 +35,7 @@ fn pages_for(
     requires touching { AreTouching case.now.system.constraints part.now.vars part.now.touching }
     ensures part { IfOk result (λ pages. pages.part ≡ part.now) }
     ensures pages { IfOk result (λ pages. ArePagesOf case.now budget givens.now.value facts.now.value pages) }
+    ensures unvisited { IfOk result (λ pages. visited_of pages ≡ 0) }
 {
     let own = part.copy(alloc)?;
     let given = Arc::try_clone(givens)?;
@@ -56,7 +59,8 @@ fn pages_of(
         → IsPart case.now.system.vars case.now.system.constraints (value_at facts.now.value) part.vars }
     requires touching { (k : ℕ) (part : PartSpec) → slice_get parts.now k ≡ Some part
         → AreTouching case.now.system.constraints part.vars part.touching }
-    ensures { IfOk result (λ pages. AreLaid case.now budget givens.now.value facts.now.value parts.now pages.items) }
+    ensures laid { IfOk result (λ pages. AreLaid case.now budget givens.now.value facts.now.value parts.now pages.items) }
+    ensures unvisited { IfOk result (λ pages. AreUnvisited pages.items) }
 {
     let mut pages = Vec::new(alloc);
     for i in 0..parts.len() {
@@ -66,7 +70,7 @@ fn pages_of(
     Ok(pages)
 }
 
-/// The pages of all parts of the last published board, of which these are the facts.
+/// New pages of all parts of the last published board, of which these are the facts.
 pub fn all_pages(
     alloc: Global,
     case: &Case,
@@ -80,7 +84,8 @@ pub fn all_pages(
     requires published { 0 < epochs_published journal.now }
     requires begun { epochs_published journal.now ≤ last_begun journal.now + 1 }
     requires board { IsBoardOf case.now.system.vars case.now.system.constraints facts.now }
-    ensures { IfOk result (λ pages. AreAllPages case.now budget (epoch_givens case.now journal.now (epochs_published journal.now - 1)) facts.now pages.items) }
+    ensures pages { IfOk result (λ pages. AreAllPages case.now budget (epoch_givens case.now journal.now (epochs_published journal.now - 1)) facts.now pages.items) }
+    ensures unvisited { IfOk result (λ pages. AreUnvisited pages.items) }
 {
     let epoch = published(journal.as_slice()) - 1;
     let givens = Arc::new(alloc, givens_of(alloc, case, journal, epoch)?)?;

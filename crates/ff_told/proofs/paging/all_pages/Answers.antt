@@ -17,8 +17,8 @@ pages_of-requires-clause-each c k part h =
     subst (λ f. IsPart c.args.case.now.system.vars c.args.case.now.system.constraints (value_at f) part.vars) (sym (c.in_ok-kept.ensures.ok ∙ c.in_ok-copy.ensures))
     (c.in_ok-found.ensures.each k part (subst (λ xs. slice_get xs k ≡ Some part) c.as_slice-list.ensures h))
 
-pub returns : goal.returns
-returns c =
+pub returns-clause-pages : goal.returns-clause-pages
+returns-clause-pages c =
     let vars = c.args.case.now.system.vars in
     let cons = c.args.case.now.system.constraints in
     let facts_are = c.in_ok-kept.ensures.ok ∙ c.in_ok-copy.ensures in
@@ -29,4 +29,4 @@ returns c =
     (laid_all c.args.case.now c.args.budget c.in_ok-givens.givens.value c.in_ok-kept.kept.value c.as_slice-list.result.now c.in_ok-pages.pages.items
     (subst (λ f. AreParts vars cons (value_at f) (vars_of c.as_slice-list.result.now)) (sym facts_are)
     (subst (λ xs. AreParts vars cons (value_at c.args.facts.now) (vars_of xs)) (sym c.as_slice-list.ensures) c.in_ok-found.ensures.parts))
-    c.in_ok-pages.ensures))
+    c.in_ok-pages.ensures.laid))

@@ -34,7 +34,7 @@ invariant_of-self-2 c =
     let more : c.push.new.self ≡ j ++ entry.Said v n said told ∷ [] = c.in_ok-push.ensures.pushed ∙ ap (λ k. j ++ entry.Said v k said told ∷ []) index in
     let marked : AreMarked c.self.inside.demanded.items (demand_of said told) c.mark.new.marks.items =
     subst (λ x. AreMarked c.self.inside.demanded.items x c.mark.new.marks.items) c.demand_of-demand.ensures c.mark.ensures in
-    subst (λ (x : List Entry). IsDesk (record { base = b; journal = x; givens = c.self.inside.givens; facts = c.self.inside.facts; home = c.self.inside.home; present = c.self.inside.present; pages = c.self.inside.pages; demanded = c.mark.new.marks.items })) (sym more)
+    subst (λ (x : List Entry). IsDesk (record { base = b; journal = x; givens = c.self.inside.givens; facts = c.self.inside.facts; home = c.self.inside.home; present = c.self.inside.present; pages = c.self.inside.pages; demanded = c.mark.new.marks.items; earlier = c.self.inside.earlier })) (sym more)
     (said_keeps _ v n said told c.mark.new.marks.items c.self.invariant
     (subst (λ (d : DeskView). IsSaid d.base.case d.base.budget d.journal v (length (commands_of v d.journal)) said told) back c.requires.said)
     (subst (λ (d : DeskView). NamesFit d.base.case (Some d.facts) (entry.Said v (length (commands_of v d.journal)) said told)) back c.requires.names)
