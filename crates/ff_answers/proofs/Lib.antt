@@ -1,8 +1,8 @@
 pub mod Reports
 mod Building
-pub mod Coming
+mod Coming
 pub mod Patterns
-pub mod Deciding
+mod Deciding
 mod SomeLogs
 mod Closures
 mod Classes

@@ -1,3 +1,3 @@
-pub mod Following
+mod Following
 pub mod Dealing
 pub mod Scripts

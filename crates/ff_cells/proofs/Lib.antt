@@ -8,7 +8,7 @@ mod Nexts
 mod Ends
 mod Stacks
 mod Tidy
-pub mod Passing
+mod Passing
 mod Emitting
 mod Sweeping
 mod Exact
@@ -30,6 +30,6 @@ mod AllXs
 mod Sweeps
 mod Moved
 pub mod OneCount
-pub mod Complete
+mod Complete
 pub mod BarsThere
 pub mod Counting

@@ -1,25 +1,25 @@
-pub mod ListedFaces
-pub mod Triples
+mod ListedFaces
+mod Triples
 mod Seats
 mod ThreePlaces
-pub mod AlternatingChords
-pub mod SwappedChords
+mod AlternatingChords
+mod SwappedChords
 mod RowTests
-pub mod RowOrders
-pub mod ChordLists
+mod RowOrders
+mod ChordLists
 pub mod BorderLaws
-pub mod EdgeFaces
-pub mod ChordForms
-pub mod FormChords
-pub mod Matchings
-pub mod Comparing
+mod EdgeFaces
+mod ChordForms
+mod FormChords
+mod Matchings
+mod Comparing
 mod PlainOrders
 pub mod CiteRows
 mod PlainRows
-pub mod RowStackings
+mod RowStackings
 pub mod PairSets
 pub mod CaseRows
-pub mod Creases
+mod Creases
 pub mod Truth
 pub mod SortedLists
 pub mod Alike

@@ -1,11 +1,11 @@
-pub mod Growing
-pub mod Counts
-pub mod Demanding
-pub mod Marking
-pub mod Keeping
-pub mod Laying
-pub mod Examined
-pub mod Publishing
-pub mod Beginning
-pub mod InOrder
-pub mod Ahead
+mod Growing
+mod Counts
+mod Demanding
+mod Marking
+mod Keeping
+mod Laying
+mod Examined
+mod Publishing
+mod Beginning
+mod InOrder
+mod Ahead

@@ -1,7 +1,7 @@
 pub mod OnWays
 mod CommonWays
 mod Rows
-pub mod RingSides
+mod RingSides
 mod OneSide
 pub mod Segments
 pub mod PairLists

@@ -8,7 +8,7 @@ mod EpochGivens
 mod InForce
 mod Touches
 mod Holders
-pub mod JournalTests
+mod JournalTests
 pub mod LastPublished
 mod Answered
 pub mod PinGivens

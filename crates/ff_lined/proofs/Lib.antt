@@ -1,5 +1,5 @@
 pub mod Readings
-pub mod Written
-pub mod Floats
+mod Written
+mod Floats
 mod Feeds
 mod ReadBack

@@ -1,14 +1,14 @@
-pub mod Dividing
-pub mod Cuts
+mod Dividing
+mod Cuts
 pub mod Sharing
-pub mod Letters
-pub mod Astride
+mod Letters
+mod Astride
 pub mod Nearness
-pub mod Touching
-pub mod TwoLines
+mod Touching
+mod TwoLines
 pub mod Gathers
-pub mod PointLists
+mod PointLists
 pub mod Ordered
 pub mod Edging
-pub mod HeadLists
+mod HeadLists
 pub mod Patterns

@@ -1,4 +1,5 @@
 -- How two lines lie to each other, as far as their drawing asks.
+-- For the proofs of this crate alone.
 use Rattle.std.specs.Prelude.{◌⊎◌, pos, ◌<ℤ◌}
 use Rattle.ff_whole.specs.declared.points.Pt.{Pt}
 use Rattle.ff_whole.specs.declared.places.Place.{Place}

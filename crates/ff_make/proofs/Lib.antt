@@ -1,2 +1,2 @@
 mod Strips
-pub mod OneAccordion
+mod OneAccordion

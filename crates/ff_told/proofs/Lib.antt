@@ -1,6 +1,6 @@
 pub mod Refuted
 pub mod Kept
-pub mod Choosing
+mod Choosing
 pub mod Filled
 pub mod Asked
 pub mod Earlier

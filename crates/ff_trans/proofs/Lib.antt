@@ -2,5 +2,5 @@ mod Marks
 mod Indexes
 mod Shares
 mod Keys
-pub mod Lists
+mod Lists
 mod FoundTriples

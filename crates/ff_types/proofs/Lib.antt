@@ -1,10 +1,10 @@
 pub mod SortedPairs
 mod Members
-pub mod Named
-pub mod Computing
-pub mod ComputedDrawings
+mod Named
+mod Computing
+mod ComputedDrawings
 pub mod ComputedFaces
-pub mod ComputedFoldings
+mod ComputedFoldings
 mod DrawingTests
 mod FaceTests
 mod FoldingTests
