@@ -13,7 +13,7 @@ use Rattle.ff_whole.specs.declared.places.Place.{Place}
 use Rattle.ff_lines.specs.Lines.{LiesOn}
 
 -- the slant to another line is the fall of that line's height
-slant-fall : (l : Line) (p q : Pt) → slant (through p q) l ≡ height l (place_of p) -ℤ height l (place_of q)
+pub slant-fall : (l : Line) (p q : Pt) → slant (through p q) l ≡ height l (place_of p) -ℤ height l (place_of q)
 slant-fall l p q = let l' = line_e 0 in let p' = point_e 3 in let q' = point_e 5 in
     solve (line_env l (point_env p (point_env q []))) (slant_e (through_e p' q') l') (height_e l' (place_of_e p') ⊖ height_e l' (place_of_e q')) refl
 

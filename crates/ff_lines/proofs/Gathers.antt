@@ -14,7 +14,7 @@ use Rattle.ff_lines.specs.declared.items.LineItem.{LineItem}
 use Rattle.ff_lines.specs.Lines.{AreLines, AreOverlapping, ComesBefore, IsEndAt, NoneBefore, NoneStops, OffGridAt, OverlapAt, AreOffGrid}
 use Rattle.ff_lines.specs.Drawings.{AreVertices, HasManyVertices, IsVertexOf, Rise}
 use Rattle.ff_lines.specs.Gathered.{AreEndsOf, AreGathered, HoldSame, IsCounted, IsKept, IsPairDone, IsSqueezed}
-use Rattle.ff_lines.specs.Meetings.{ArePlain, MeetAt}
+use Rattle.ff_lines.specs.Meetings.{ArePlain, MeetAt, MeetInWhole}
 use Rattle.ff_lines.proofs.Sharing.{back_same, same_from, through_same, to_same, whole_place}
 use Rattle.ff_lines.proofs.TwoLines.{one_whole}
 
@@ -100,6 +100,13 @@ module _ (lines : List LineItem) (i j : ℕ) (k l : LineItem) (are : AreLines li
   after_plain plain = step points h.only (λ x c. c) (record {
     wholes = λ s only. elim (plain.ends s only) [ inl e ↦ end_of k i are.first s e | inr e ↦ end_of l j are.second s e ];
     letters = plain.letters;
+  })
+
+  -- where no more points are kept
+  pub after_whole : full ≡ true → MeetInWhole k l → AreGathered lines i (j + 1) points full
+  after_whole f w = step points h.only (λ x c. c) (record {
+    wholes = λ s only. (let r = w.whole s only in (r.0, r.1, λ g. absurd (false≢true (sym g ∙ f))));
+    letters = w.letters;
   })
 
   pub after_meeting : (v : Pt) → MeetAt k l v → (new : List Pt) → IsKept points full v new → AreGathered lines i (j + 1) new full

@@ -9,7 +9,7 @@ use Rattle.ff_types.specs.declared.patterns.Mark.{Mark}
 use Rattle.ff_lines.specs.declared.items.LineItem.{LineItem}
 use Rattle.ff_lines.specs.Lines.{IsProper, NoneStops}
 use Rattle.ff_lines.specs.Drawings.{AreVertices}
-use Rattle.ff_lines.specs.Heads.{AreHeads, IsHead, IsHeadAt, IsLast, IsNext, IsOnAt, head_at}
+use Rattle.ff_lines.specs.Heads.{AreHeads, IsHead, IsHeadAt, IsLast, IsNext, IsOnAt, AreMoreHeads, head_at}
 use Rattle.ff_lines.proofs.Ordered.{head_of_piece, one_letter, piece_of_head}
 
 pub no_heads : (lines : List LineItem) (points : List Pt) (a : ℕ) → AreHeads lines 0 points a (replicate (length points) None)
@@ -92,6 +92,12 @@ module _ (lines : List LineItem) (points : List Pt) (i a : ℕ) (l : LineItem) (
 
     pub put_head : AreHeads lines (i + 1) points a (set heads b (Some l.mark))
     put_head = record { as_many = length-set heads b (Some l.mark) ∙ h.as_many; only = only_at; all = all_at }
+
+-- with its line's letter noted, where it goes on
+pub more_heads : (lines : List LineItem) (points : List Pt) (i a : ℕ) (l : LineItem) → slice_get lines i ≡ Some l → (heads new : List (Option Mark)) → AreHeads lines i points a heads
+    → AreMoreHeads l points a heads new → AreHeads lines (i + 1) points a new
+more_heads lines points i a l there heads new h (inl (last, e)) = subst (AreHeads lines (i + 1) points a) (sym e) (last_head lines points i a l there heads h last)
+more_heads lines points i a l there heads new h (inr (b, next, e)) = subst (AreHeads lines (i + 1) points a) (sym e) (put_head lines points i a l there heads h b next)
 
 -- what is noted in the end is whether there is an edge
 pub head_is : (lines : List LineItem) → ((i : ℕ) (l : LineItem) → slice_get lines i ≡ Some l → IsProper l) → NoneStops lines → (points : List Pt) → AreVertices lines points

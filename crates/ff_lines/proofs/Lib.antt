@@ -7,8 +7,11 @@ pub mod Nearness
 mod Touching
 mod TwoLines
 pub mod Gathers
+mod Apart
+mod Swept
 mod PointLists
 pub mod Ordered
 pub mod Edging
 mod HeadLists
+mod Cursors
 pub mod Patterns

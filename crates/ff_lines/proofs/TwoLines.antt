@@ -64,7 +64,7 @@ plain_beside k l h (inr y) = no_place k l (λ s c. none_right l k h y s c.place 
 
 -- ---- the one place
 
-slant-flip : (k l : Line) → slant l k ≡ pos 0 -ℤ slant k l
+pub slant-flip : (k l : Line) → slant l k ≡ pos 0 -ℤ slant k l
 slant-flip k l = let k' = line_e 0 in let l' = line_e 3 in
     solve (line_env k (line_env l [])) (slant_e l' k') (num (pos 0) ⊖ slant_e k' l') refl
 

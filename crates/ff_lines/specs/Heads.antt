@@ -1,5 +1,5 @@
 -- The edges of the drawing, vertex by vertex. For the proofs of this crate alone.
-use Rattle.std.specs.Prelude.{◌≡◌, ℕ, ◌<◌, List, length, slice_get, slice_index_or, Option, None, Some}
+use Rattle.std.specs.Prelude.{◌≡◌, ◌⊎◌, ℕ, ◌+◌, ◌<◌, ◌≤◌, List, set, length, slice_get, slice_index_or, Option, None, Some}
 use Rattle.ff_whole.specs.declared.points.Pt.{Pt}
 use Rattle.ff_whole.specs.Convex.{point_at}
 use Rattle.ff_whole.specs.Places.{place_of}
@@ -24,6 +24,26 @@ pub record IsNext (l : LineItem) (points : List Pt) (a b : ℕ) : Type 0 where
 -- the line has no point after a
 abbrev pub IsLast : LineItem → List Pt → ℕ → Type 0
 IsLast l points a = (c : ℕ) → a < c → c < length points → IsOnAt l points c → ⊥
+
+-- c is the first point of the line from a on, and no number of a point where the line has none
+pub record IsCursor (l : LineItem) (points : List Pt) (a c : ℕ) : Type 0 where
+  pub from : a ≤ c
+  pub on : c < length points → IsOnAt l points c
+  pub none : (x : ℕ) → a ≤ x → x < c → x < length points → IsOnAt l points x → ⊥
+
+-- the cursor of a line, whose number is to be below the length
+abbrev pub cursor_at : List ℕ → ℕ → ℕ
+cursor_at cursors i = slice_index_or cursors i 0
+
+-- a cursor for each line: of the first n past a, of the others from a on
+pub record AreCursors (lines : List LineItem) (n : ℕ) (points : List Pt) (a : ℕ) (cursors : List ℕ) : Type 0 where
+  pub as_many : length cursors ≡ length lines
+  pub past : (i : ℕ) (l : LineItem) → i < n → slice_get lines i ≡ Some l → IsCursor l points (a + 1) (cursor_at cursors i)
+  pub left : (i : ℕ) (l : LineItem) → n ≤ i → slice_get lines i ≡ Some l → IsCursor l points a (cursor_at cursors i)
+
+-- the letter of the line is noted for its next point after a, where it has one
+abbrev pub AreMoreHeads : LineItem → List Pt → ℕ → List (Option Mark) → List (Option Mark) → Type 0
+AreMoreHeads l points a old new = (IsLast l points a × (new ≡ old)) ⊎ ((b : ℕ) × IsNext l points a b × (new ≡ set old b (Some l.mark)))
 
 -- one of the first n lines has this letter, and b is its next point after a
 pub record IsHead (lines : List LineItem) (n : ℕ) (points : List Pt) (a b : ℕ) (mark : Mark) : Type 0 where

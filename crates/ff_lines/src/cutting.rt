@@ -6,24 +6,15 @@ ghost use Rattle.ff_whole.specs.Points.{IsNear, turn};
 ghost use Rattle.ff_types.specs.declared.limits.TheConstants.{MOST_VERTICES};
 ghost use Rattle.ff_lines.specs.Lines.{IsOnLine, IsProper, NoneStops};
 ghost use Rattle.ff_lines.specs.Drawings.{AreEdges, AreVertices};
-ghost use Rattle.ff_lines.specs.Heads.{AreEdgesTo, AreHeads, IsHeadAt, IsLast, IsNext, IsOnAt};
+ghost use Rattle.ff_lines.specs.Heads.{AreCursors, AreEdgesTo, AreHeads, AreMoreHeads, IsCursor, IsHeadAt, IsLast, IsNext, IsOnAt};
 
 use crate::items::LineItem;
+use crate::pairs::is_level;
 use ff_edges::{earlier, is_before, later};
 use ff_tables::NoMemory;
 use ff_types::{EdgeEnds, Mark};
-use ff_whole::{Pt, orient};
+use ff_whole::Pt;
 use std::alloc::Global;
-
-// Whether a point is on the line through two others.
-fn is_level(p: Pt, q: Pt, v: Pt) -> bool
-    requires p_near { IsNear p }
-    requires q_near { IsNear q }
-    requires near { IsNear v }
-    ensures { IsTrue result ↔ (turn p q v ≡ pos 0) }
-{
-    orient(p, q, v) == 0
-}
 
 // Whether a point is on a line.
 fn is_on(l: LineItem, v: Pt) -> bool
@@ -58,23 +49,75 @@ fn next_on(l: LineItem, points: &[Pt], a: usize) -> Option<usize>
     None
 }
 
+// The number of a line's first point.
+fn first_on(l: LineItem, points: &[Pt]) -> usize
+    requires line { IsProper l }
+    requires near { All IsNear points.now }
+    ensures { IsCursor l points.now 0 result }
+{
+    for b in 0..points.len() {
+        if is_on(l, points[b]) {
+            return b;
+        }
+    }
+    points.len()
+}
+
+// For each line the number of its first point.
+fn first_cursors(alloc: Global, lines: &[LineItem], points: &[Pt]) -> Result<Vec<usize>, NoMemory>
+    requires proper { All IsProper lines.now }
+    requires near { All IsNear points.now }
+    ensures { IfOk result (λ cursors. AreCursors lines.now 0 points.now 0 cursors.items) }
+{
+    let mut cursors = Vec::with_capacity(alloc, lines.len())?;
+    for i in 0..lines.len() {
+        cursors.push(first_on(lines[i], points))?;
+    }
+    Ok(cursors)
+}
+
+// The number of the next point of a line after the one with number `a`, or how many points there are.
+fn cursor_after(l: LineItem, points: &[Pt], a: usize, heads: &mut Vec<Option<Mark>>) -> usize
+    requires line { IsProper l }
+    requires near { All IsNear points.now }
+    requires within { a < length points.now }
+    requires on { IsOnAt l points.now a }
+    requires as_many { length heads.old.items ≡ length points.now }
+    ensures cursor { IsCursor l points.now (a + 1) result }
+    ensures heads { AreMoreHeads l points.now a heads.old.items heads.new.items }
+{
+    match next_on(l, points, a) {
+        Some(b) => {
+            heads[b] = Some(l.mark);
+            b
+        }
+        None => points.len(),
+    }
+}
+
 // Notes where a line goes on from the point with number `a`.
-fn take_head(lines: &[LineItem], i: usize, points: &[Pt], a: usize, heads: &mut Vec<Option<Mark>>)
+fn take_head(
+    lines: &[LineItem],
+    i: usize,
+    points: &[Pt],
+    a: usize,
+    heads: &mut Vec<Option<Mark>>,
+    cursors: &mut Vec<usize>,
+)
     requires proper { All IsProper lines.now }
     requires near { All IsNear points.now }
     requires within { i < length lines.now }
     requires point_within { a < length points.now }
     requires heads { AreHeads lines.now i points.now a heads.old.items }
-    ensures { AreHeads lines.now (i + 1) points.now a heads.new.items }
+    requires cursors { AreCursors lines.now i points.now a cursors.old.items }
+    ensures heads { AreHeads lines.now (i + 1) points.now a heads.new.items }
+    ensures cursors { AreCursors lines.now (i + 1) points.now a cursors.new.items }
 {
-    let l = lines[i];
-    if !is_on(l, points[a]) {
+    let _ = (lines.len(), points.len());
+    if cursors[i] != a {
         return;
     }
-    match next_on(l, points, a) {
-        Some(b) => heads[b] = Some(l.mark),
-        None => {}
-    }
+    cursors[i] = cursor_after(lines[i], points, a, heads);
 }
 
 // No letter for each point.
@@ -85,21 +128,24 @@ fn no_heads(alloc: Global, count: usize) -> Result<Vec<Option<Mark>>, NoMemory>
     Ok(heads)
 }
 
-// For each point the letter of a line on which it is the next one after `a`.
+// For each point the letter of a line on which it is the next one after `a`. The cursors go on past `a`.
 fn heads_of(
     alloc: Global,
     lines: &[LineItem],
     points: &[Pt],
     a: usize,
+    cursors: &mut Vec<usize>,
 ) -> Result<Vec<Option<Mark>>, NoMemory>
     requires proper { All IsProper lines.now }
     requires near { All IsNear points.now }
     requires within { a < length points.now }
-    ensures { IfOk result (λ heads. AreHeads lines.now (length lines.now) points.now a heads.items) }
+    requires cursors { AreCursors lines.now 0 points.now a cursors.old.items }
+    ensures heads { IfOk result (λ heads. AreHeads lines.now (length lines.now) points.now a heads.items) }
+    ensures cursors { OnOk result (AreCursors lines.now 0 points.now (a + 1) cursors.new.items) }
 {
     let mut heads = no_heads(alloc, points.len())?;
     for i in 0..lines.len() {
-        take_head(lines, i, points, a, &mut heads);
+        take_head(lines, i, points, a, &mut heads, cursors);
     }
     Ok(heads)
 }
@@ -176,8 +222,9 @@ pub fn edges_of(alloc: Global, lines: &[LineItem], points: &[Pt]) -> Result<Edge
         edges: Vec::new(alloc),
         marks: Vec::new(alloc),
     };
+    let mut cursors = first_cursors(alloc, lines, points)?;
     for a in 0..points.len() {
-        let heads = heads_of(alloc, lines, points, a)?;
+        let heads = heads_of(alloc, lines, points, a, &mut cursors)?;
         push_heads(lines, points, a, heads.as_slice(), &mut drawn)?;
     }
     Ok(drawn)

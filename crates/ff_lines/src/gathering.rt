@@ -8,7 +8,8 @@ ghost use Rattle.ff_lines.specs.Drawings.{AreVertices, WhyNotDrawn};
 ghost use Rattle.ff_lines.specs.Gathered.{AreEndsOf, AreGathered, IsCounted, IsKept, IsSqueezed};
 
 use crate::items::LineItem;
-use crate::pairs::{Meeting, meeting_of};
+use crate::pairs::{Meeting, are_square, meeting_of};
+use crate::sweeping::swept;
 use ff_tables::NoMemory;
 use ff_types::{MOST_VERTICES, No, Refusal, What};
 use ff_whole::Pt;
@@ -40,8 +41,8 @@ fn keep_point(points: &mut Vec<Pt>, full: bool, point: Pt) -> Result<(), NoMemor
     Ok(())
 }
 
-// Looks at one pair.
-fn take_pair(
+/// Looks at one pair.
+pub fn take_pair(
     lines: &[LineItem],
     i: usize,
     j: usize,
@@ -55,6 +56,9 @@ fn take_pair(
     requires gathered { AreGathered lines.now i j points.old.items full }
     ensures { MatchResult result (λ _. AreGathered lines.now i (j + 1) points.new.items full) (WhyNotDrawn lines.now) }
 {
+    if full && are_square(lines[i], lines[j]) {
+        return Ok(());
+    }
     match meeting_of(lines[i], lines[j]) {
         Meeting::Plain => Ok(()),
         Meeting::Overlapping => Err(No::Refused(Refusal::Overlap {
@@ -106,8 +110,13 @@ fn are_too_many(points: &mut Vec<Pt>) -> Result<bool, NoMemory>
     Ok(points.len() > MOST_VERTICES)
 }
 
-// Whether no more points are kept, since there are too many. Where that is so none is held any longer.
-fn count_points(lines: &[LineItem], i: usize, points: &mut Vec<Pt>, full: bool) -> Result<bool, No>
+/// Whether no more points are kept, since there are too many. Where that is so none is held any longer.
+pub fn count_points(
+    lines: &[LineItem],
+    i: usize,
+    points: &mut Vec<Pt>,
+    full: bool,
+) -> Result<bool, No>
     requires gathered { AreGathered lines.now i (i + 1) points.old.items full }
     ensures { MatchResult result (λ full. AreGathered lines.now i (i + 1) points.new.items full) (WhyNotDrawn lines.now) }
 {
@@ -145,8 +154,8 @@ fn finished(lines: &[LineItem], points: &mut Vec<Pt>, full: bool) -> Result<(), 
     Ok(())
 }
 
-/// The vertices of the drawing, in order, or why there are none: the first pair of lines that stops, else too many vertices.
-pub fn vertices_of(alloc: Global, lines: &[LineItem]) -> Result<Vec<Pt>, No>
+// The vertices of the drawing, in order, or why there are none: pair by pair, by the first line and then by the second.
+fn vertices_by_pairs(alloc: Global, lines: &[LineItem]) -> Result<Vec<Pt>, No>
     requires proper { All IsProper lines.now }
     requires few { length lines.now ≤ MOST_LINES }
     ensures { MatchResult result (λ points. NoneStops lines.now × AreVertices lines.now points.items × (length points.items ≤ MOST_VERTICES)) (WhyNotDrawn lines.now) }
@@ -159,4 +168,22 @@ pub fn vertices_of(alloc: Global, lines: &[LineItem]) -> Result<Vec<Pt>, No>
     }
     finished(lines, &mut points, full)?;
     Ok(points)
+}
+
+/// The vertices of the drawing, in order, or why there are none: the first pair of lines that stops, else too many vertices.
+/// Only where some pair stops are all looked at by their numbers.
+pub fn vertices_of(alloc: Global, lines: &[LineItem]) -> Result<Vec<Pt>, No>
+    requires proper { All IsProper lines.now }
+    requires few { length lines.now ≤ MOST_LINES }
+    ensures { MatchResult result (λ points. NoneStops lines.now × AreVertices lines.now points.items × (length points.items ≤ MOST_VERTICES)) (WhyNotDrawn lines.now) }
+{
+    let mut points = ends_of(alloc, lines)?;
+    match swept(alloc, lines, &mut points) {
+        Ok(full) => {
+            finished(lines, &mut points, full)?;
+            Ok(points)
+        }
+        Err(No::NoMemory) => Err(No::NoMemory),
+        Err(No::Refused(_)) => vertices_by_pairs(alloc, lines),
+    }
 }

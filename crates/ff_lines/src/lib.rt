@@ -7,6 +7,7 @@ mod gathering;
 mod items;
 mod laws;
 mod pairs;
+mod sweeping;
 
 pub use drawing::draw;
 pub use items::{LineItem, MOST_LINES};

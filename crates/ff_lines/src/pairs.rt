@@ -4,11 +4,11 @@ ghost use Rattle.ff_whole.specs.Places.{slant, through as line_through};
 ghost use Rattle.ff_whole.specs.Points.{IsNear, turn};
 ghost use Rattle.ff_whole.specs.Meeting.{IsMeet};
 ghost use Rattle.ff_lines.specs.Lines.{IsOnlyCommon, IsProper};
-ghost use Rattle.ff_lines.specs.Meetings.{AreBeside, IsMeeting};
+ghost use Rattle.ff_lines.specs.Meetings.{AreApart, AreBeside, HaveCommonEnd, IsEnd, IsMeeting, MeetInWhole};
 
 use crate::items::LineItem;
 use ff_edges::common_way;
-use ff_whole::{Place, Pt, meet, orient, through};
+use ff_whole::{Place, Pt, high_of, low_of, meet, orient, through};
 
 /// How two lines lie to each other, as far as their drawing asks.
 #[derive(Clone, Copy, Debug, PartialEq, Eq)]
@@ -21,6 +21,66 @@ pub enum Meeting {
     OffGrid,
     /// Their only common point.
     At { point: Pt },
+}
+
+// Whether `l` lies wholly above `k`.
+fn is_above(k: LineItem, l: LineItem) -> bool
+    requires first { IsProper k }
+    requires second { IsProper l }
+    ensures { IsTrue result → AreApart k l }
+{
+    high_of(k.p, k.q).y < low_of(l.p, l.q).y
+}
+
+/// Whether a point is on the line through two others.
+pub fn is_level(p: Pt, q: Pt, v: Pt) -> bool
+    requires p_near { IsNear p }
+    requires q_near { IsNear q }
+    requires near { IsNear v }
+    ensures { IsTrue result ↔ (turn p q v ≡ pos 0) }
+{
+    orient(p, q, v) == 0
+}
+
+// Whether the ends of `l` are on the line through those of `k`.
+fn are_in_line(k: LineItem, l: LineItem) -> bool
+    requires first { IsProper k }
+    requires second { IsProper l }
+    ensures { IsTrue result → (slant (line_through k.p k.q) (line_through l.p l.q) ≡ pos 0) }
+{
+    is_level(k.p, k.q, l.p) && is_level(k.p, k.q, l.q)
+}
+
+// Whether a point is an end of a line.
+fn is_end(l: LineItem, v: Pt) -> bool
+    ensures { IsTrue result → IsEnd l v }
+{
+    v == l.p || v == l.q
+}
+
+// Whether two lines have a common end.
+fn share_end(k: LineItem, l: LineItem) -> bool
+    ensures { IsTrue result → HaveCommonEnd k l }
+{
+    is_end(l, k.p) || is_end(l, k.q)
+}
+
+// Whether `k` goes straight up or down, and `l` straight across.
+fn is_crossed(k: LineItem, l: LineItem) -> bool
+    requires first { IsProper k }
+    requires second { IsProper l }
+    ensures { IsTrue result → MeetInWhole k l }
+{
+    k.p.x == k.q.x && l.p.y == l.q.y
+}
+
+/// Whether two lines are at right angles, one upright: where they meet is a whole point.
+pub fn are_square(k: LineItem, l: LineItem) -> bool
+    requires first { IsProper k }
+    requires second { IsProper l }
+    ensures { IsTrue result → MeetInWhole k l }
+{
+    is_crossed(k, l) || is_crossed(l, k)
 }
 
 fn is_left(p: Pt, q: Pt, r: Pt) -> bool
@@ -109,10 +169,19 @@ pub fn meeting_of(k: LineItem, l: LineItem) -> Meeting
     requires second { IsProper l }
     ensures { IsMeeting k l result }
 {
+    if k.mark == l.mark && are_in_line(k, l) {
+        return Meeting::Plain;
+    }
+    if is_above(k, l) || is_above(l, k) {
+        return Meeting::Plain;
+    }
     if are_beside(k, l) {
         return Meeting::Plain;
     }
     if are_beside(l, k) {
+        return Meeting::Plain;
+    }
+    if k.mark == l.mark && share_end(k, l) {
         return Meeting::Plain;
     }
     match meet(through(k.p, k.q), through(l.p, l.q)) {

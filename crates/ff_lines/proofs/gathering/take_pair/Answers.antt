@@ -1,7 +1,12 @@
 use Rattle.std.proofs.Common.{arith}
 use Rattle.std.proofs.lemmas.Option.{slice_get-get_or}
-use Rattle.ff_lines.proofs.Gathers.{after_meeting, after_plain, stops_off, stops_over}
+use Rattle.ff_lines.proofs.Gathers.{after_meeting, after_plain, after_whole, stops_off, stops_over}
 use Rattle.ff_lines.proofs.gathering.take_pair.Goals as goal
+
+pub returns-then-are_square : goal.returns-then-are_square
+returns-then-are_square c = after_whole c.args.lines.now c.args.i c.args.j _ _
+    (record { order = c.requires.order; first = slice_get-get_or c.args.lines.now c.args.i _ (let a = c.requires.order in let b = c.requires.within in omega (arith, a, b)); second = slice_get-get_or c.args.lines.now c.args.j _ c.requires.within })
+    c.args.points.now.items c.args.full c.requires.gathered c.if-full.true (c.are_square.ensures c.if-are_square.true)
 
 pub returns-in-Plain : goal.returns-in-Plain
 returns-in-Plain c = after_plain c.args.lines.now c.args.i c.args.j _ _

@@ -1,7 +1,7 @@
 use Rattle.std.proofs.Common.{◌≡◌, ◌+◌, length, arith, subst}
 use Rattle.ff_lines.specs.Gathered.{AreGathered}
 use Rattle.ff_lines.proofs.Gathers.{begun}
-use Rattle.ff_lines.proofs.gathering.vertices_of.Goals as goal
+use Rattle.ff_lines.proofs.gathering.vertices_by_pairs.Goals as goal
 
 pub loop-i-init : goal.loop-i-init
 loop-i-init c = begun c.args.lines.now c.in_ok-points.points.items c.in_ok-points.ensures
