@@ -1,4 +1,5 @@
 -- What a board may be opened with.
+-- For the proofs of this crate alone.
 use Rattle.std.specs.Prelude.{List, Option}
 use Rattle.ff_tables.specs.declared.givens.Given.{Given}
 use Rattle.ff_types.specs.declared.cases.Case.{Case}

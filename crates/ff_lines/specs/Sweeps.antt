@@ -1,4 +1,5 @@
--- Lines from west to east. For the proofs of this crate alone.
+-- Lines from west to east.
+-- For the proofs of this crate alone.
 use Rattle.std.specs.Prelude.{◌≡◌, ℕ, ℤ, ◌<◌, ◌≤ℤ◌, cond, List, slice_get, Some}
 use mir.Syntax.{w64}
 use mir.Val.{to_z, of_z}
