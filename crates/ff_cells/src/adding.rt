@@ -62,7 +62,7 @@ fn corners(low: &Bar, high: &Bar, left: &Border, right: &Border, top: &Border) -
 }
 
 // Keeps a cell of which the set is new.
-fn keep(found: &mut Found, faces: &Vec<u32>, at: Corners) -> Result<(), NoMemory>
+fn keep(found: &mut Found, faces: &Vec<u32>, key: u32, at: Corners) -> Result<(), NoMemory>
     ensures count { found.new.count ≡ found.old.count }
     ensures entries { found.new.entries ≡ found.old.entries }
     ensures kept { OnOk result ((c : CellRow) → IsCellOf faces.now.items at c
@@ -77,14 +77,15 @@ fn keep(found: &mut Found, faces: &Vec<u32>, at: Corners) -> Result<(), NoMemory
         faces: Items::of(over),
         at: [at.first, at.second, at.third],
     })?;
-    remember(found.recent.as_mut_slice(), faces.as_slice(), place);
+    remember(found.recent.as_mut_slice(), key, place);
     Ok(())
 }
 
-// Counts one more cell, and keeps it where there is room and its set is new.
+// Counts one more cell, and keeps it where there is room and its set is new. Only time rests on the key of the set.
 pub fn add(
     found: &mut Found,
     faces: &Vec<u32>,
+    key: u32,
     low: &Bar,
     high: &Bar,
     left: &Border,
@@ -101,8 +102,8 @@ pub fn add(
     if found.entries > MOST_ENTRIES {
         return Ok(());
     }
-    match looked_up(found, faces) {
+    match looked_up(found, faces, key) {
         Some(_) => Ok(()),
-        None => keep(found, faces, corners(low, high, left, right, top)),
+        None => keep(found, faces, key, corners(low, high, left, right, top)),
     }
 }

@@ -10,6 +10,7 @@ ghost use Rattle.ff_cells.specs.Start.{slope_cmp, start_cmp, starts_lower, Close
 
 use crate::border::Border;
 use crate::heights::cmp_at;
+use crate::settling::settle;
 use ff_whole::{Line, Pt, meet};
 use std::alloc::AllocError;
 use std::cmp::Ordering;
@@ -45,11 +46,12 @@ impl Bar {
     }
 }
 
-// From below to above just right of the border.
+// From below to above just right of the border. The sort is quick where the bars stand in order already.
 pub fn sort_bars(v: &mut Vec<Bar>, at: &Border) -> Result<(), AllocError>
     ensures same { IsPermutation v.old.items v.new.items }
     ensures sorted { OnOk result (IsSortedBy (λ a b. starts_lower at.now.place a.line b.line) v.new.items) }
 {
+    settle(v.as_mut_slice(), at);
     v.sort_by(|a: &Bar, b: &Bar| a.by_start(b, at))
 }
 

@@ -13,6 +13,7 @@ mod laws;
 mod layers;
 mod reaching;
 mod recent;
+mod settling;
 mod slab;
 mod steps;
 mod sweep;

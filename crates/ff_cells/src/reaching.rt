@@ -1,5 +1,5 @@
 //! From the bars of one strip to those of the next.
-ghost use Rattle.std.specs.Prelude.{◌≡◌, ◌≤◌, ◌<◌, ◌≤ℤ◌, ◌++◌, ◌∷◌, [], length, filter, OnOk, IfOk};
+ghost use Rattle.std.specs.Prelude.{◌≡◌, ◌≤◌, ◌<◌, ◌≤ℤ◌, ◌++◌, ◌∷◌, [], length, filter, OnOk};
 ghost use Rattle.std.specs.List.Sorted.{IsPermutation};
 ghost use Rattle.ff_cells.specs.Reached.{AreFromLeft, AreActive, IsReached, lasts};
 ghost use Rattle.ff_cells.specs.Strip.{spans_strip};
@@ -7,7 +7,7 @@ ghost use Rattle.ff_cells.specs.Strip.{spans_strip};
 use crate::active::Active;
 use crate::bars::Bar;
 use ff_tables::NoMemory;
-use std::alloc::{AllocError, Global};
+use std::alloc::AllocError;
 
 // From left to right by their left ends.
 pub fn sort_from_left(v: &mut Vec<Bar>) -> Result<(), AllocError>
@@ -17,11 +17,11 @@ pub fn sort_from_left(v: &mut Vec<Bar>) -> Result<(), AllocError>
     v.sort_by(|a: &Bar, b: &Bar| a.lo.x.cmp(&b.lo.x))
 }
 
-// The bars that go on up to `c`.
-fn lasting(alloc: Global, bars: &[Bar], c: i64) -> Result<Vec<Bar>, NoMemory>
-    ensures { IfOk result (λ v. v.items ≡ filter (lasts c) bars.now) }
+// Lets go the bars that end before `c`.
+fn keep_lasting(v: &mut Vec<Bar>, c: i64)
+    ensures { v.new.items ≡ filter (lasts c) v.old.items }
 {
-    Ok(bars.iter().filter(|b| c <= b.hi.x).copied().collect(alloc)?)
+    v.retain(|b: &Bar| c <= b.hi.x)
 }
 
 // Appends the bar if it goes on up to `c`.
@@ -51,19 +51,13 @@ fn reach(active: &mut Active, bars: &[Bar], a: i64, c: i64) -> Result<(), NoMemo
 }
 
 // Goes on to the bars that span the strip from `a` to `c`.
-pub fn enter(
-    alloc: Global,
-    active: &mut Active,
-    bars: &[Bar],
-    a: i64,
-    c: i64,
-) -> Result<(), NoMemory>
+pub fn enter(active: &mut Active, bars: &[Bar], a: i64, c: i64) -> Result<(), NoMemory>
     requires from_left { AreFromLeft bars.now }
     requires rising { a ≤ℤ c }
     requires so_far { AreActive bars.now a a active.old }
     ensures kept { OnOk result (AreActive bars.now c c active.new) }
     ensures spanning { OnOk result (IsPermutation (filter (spans_strip a c) bars.now) active.new.bars.items) }
 {
-    active.bars = lasting(alloc, active.bars.as_slice(), c)?;
+    keep_lasting(&mut active.bars, c);
     reach(active, bars, a, c)
 }

@@ -6,28 +6,31 @@ use crate::Cell;
 use crate::found::Found;
 
 /// How many places are remembered.
-pub const SLOTS: usize = 1 << 12;
+pub const SLOTS: usize = 1 << 14;
 
-// A number made from the faces, below `SLOTS`.
-fn slot_of(faces: &[u32]) -> usize {
-    let mut mixed: u32 = 0;
-    for i in 0..faces.len() {
-        mixed = (mixed ^ faces[i]).wrapping_mul(0x9e37_79b1);
-    }
-    (mixed >> 20) as usize
+/// The key of the set that has also the face, or has it no more, where `key` is the key of a set. It doesn't rest on the
+/// order in which faces come and go.
+pub fn changed_key(key: u32, face: u32) -> u32 {
+    let mixed = (face ^ 0x5bd1_e995).wrapping_mul(0x9e37_79b1);
+    key ^ (mixed ^ (mixed >> 15)).wrapping_mul(0x85eb_ca6b)
 }
 
-// Lets the place be looked at first for these faces.
-pub fn remember(recent: &mut [usize], faces: &[u32], place: usize) {
-    let slot = slot_of(faces);
+// A number made from the key, below `SLOTS`.
+fn slot_of(key: u32) -> usize {
+    (key >> 18) as usize
+}
+
+// Lets the place be looked at first for the sets with this key.
+pub fn remember(recent: &mut [usize], key: u32, place: usize) {
+    let slot = slot_of(key);
     if slot < recent.len() {
         recent[slot] = place;
     }
 }
 
-// The place to look at first for these faces.
-fn remembered(recent: &[usize], faces: &[u32]) -> usize {
-    let slot = slot_of(faces);
+// The place to look at first for the sets with this key.
+fn remembered(recent: &[usize], key: u32) -> usize {
+    let slot = slot_of(key);
     if slot < recent.len() { recent[slot] } else { 0 }
 }
 
@@ -38,8 +41,8 @@ fn has_faces(cells: &[Cell], place: usize, faces: &[u32]) -> bool
     place < cells.len() && cells[place].faces.as_slice() == faces
 }
 
-// The place of the cell with these faces, if there is one.
-pub fn looked_up(found: &mut Found, faces: &Vec<u32>) -> Option<usize>
+// The place of the cell with these faces, if there is one. Only time rests on the key.
+pub fn looked_up(found: &mut Found, faces: &Vec<u32>, key: u32) -> Option<usize>
     ensures cells { found.new.cells ≡ found.old.cells }
     ensures places { found.new.places ≡ found.old.places }
     ensures count { found.new.count ≡ found.old.count }
@@ -47,11 +50,11 @@ pub fn looked_up(found: &mut Found, faces: &Vec<u32>) -> Option<usize>
     ensures known { AreNumbered found.old.cells.items found.old.places
         → is_some result ≡ has_set found.old.cells.items faces.now.items }
 {
-    let first = remembered(found.recent.as_slice(), faces.as_slice());
+    let first = remembered(found.recent.as_slice(), key);
     if has_faces(found.cells.as_slice(), first, faces.as_slice()) {
         return Some(first);
     }
     let place = *found.places.get(faces)?;
-    remember(found.recent.as_mut_slice(), faces.as_slice(), place);
+    remember(found.recent.as_mut_slice(), key, place);
     Some(place)
 }

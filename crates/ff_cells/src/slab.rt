@@ -15,17 +15,19 @@ use crate::bars::Bar;
 use crate::border::Border;
 use crate::found::Found;
 use crate::heights::cmp_at;
+use crate::recent::changed_key;
 use ff_tables::NoMemory;
 use std::alloc::Global;
 use std::cmp::Ordering;
 
-// The faces open past a bar: a lower bar opens its face, an upper one closes it.
-pub fn pass(faces: &mut Vec<u32>, bar: &Bar) -> Result<(), NoMemory>
+// The faces open past a bar: a lower bar opens its face, an upper one closes it. The key goes with the faces.
+pub fn pass(faces: &mut Vec<u32>, key: &mut u32, bar: &Bar) -> Result<(), NoMemory>
     requires { IsStrictlyIncreasing faces.old.items }
     ensures rising { OnOk result (IsStrictlyIncreasing faces.new.items) }
     ensures members { OnOk result ((f : ℕ)
         → Contains faces.new.items f ↔ IsPassed bar.now.face bar.now.lower faces.old.items f) }
 {
+    *key = changed_key(*key, bar.face);
     match faces.binary_search(&bar.face) {
         Ok(at) => {
             if !bar.lower {
@@ -72,14 +74,15 @@ pub fn slab(
         × IsEmitted v.now left.now.place right.now.place (length v.now) more) }
 {
     let mut faces = Vec::new(alloc);
+    let mut key = 0;
     for i in 0..v.len() {
         if i > 0 && !faces.is_empty() {
             let (low, high) = (&v[i - 1], &v[i]);
             if let Some(top) = opening(low, high, left, right) {
-                add(found, &faces, low, high, left, right, &top)?;
+                add(found, &faces, key, low, high, left, right, &top)?;
             }
         }
-        pass(&mut faces, &v[i])?;
+        pass(&mut faces, &mut key, &v[i])?;
     }
     Ok(())
 }

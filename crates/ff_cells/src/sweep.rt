@@ -137,7 +137,7 @@ fn between(
     if a >= c {
         return Ok(());
     }
-    enter(alloc, active, bars, a, c)?;
+    enter(active, bars, a, c)?;
     strip(alloc, &mut active.bars, border_at(a), border_at(c), found)
 }
 

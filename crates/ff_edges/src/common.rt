@@ -40,7 +40,7 @@ fn are_on_line(a: Pt, b: Pt, c: Pt, d: Pt) -> bool
     requires d_near { IsNear d }
     ensures { IsTrue result ↔ ((turn a b c ≡ pos 0) × (turn a b d ≡ pos 0)) }
 {
-    orient(a, b, c) == 0 && orient(a, b, d) == 0
+    orient(a, b, d) == 0 && orient(a, b, c) == 0
 }
 
 /// The ends of what the ways from `a` to `b` and from `c` to `d` have in common, in the order of x and then of y. None

@@ -7,4 +7,6 @@ pub struct Found {
     pub list: Listing,
     pub count: usize,
     pub keeps: bool,
+    // Numbers of pairs, by numbers made from their faces: where to look first. Only time rests on it.
+    pub guesses: Vec<u32>,
 }

@@ -3,6 +3,7 @@
 
 mod bounds;
 mod found;
+mod guessing;
 mod index;
 mod listed;
 mod marking;

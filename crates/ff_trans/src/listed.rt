@@ -7,37 +7,26 @@ ghost use Rattle.ff_types.specs.Cases.{IsConstraintOf};
 ghost use Rattle.ff_types.specs.declared.cites.Cite.TheVariants.{Transitivity};
 ghost use Rattle.ff_cells.specs.declared.cell.Cell.{Cell as CellRow};
 
+use crate::guessing::number;
 use arrayvec::ArrayVec;
 use ff_cells::Cell;
 use ff_tables::{Constraint, Kind, Term, Terms};
 use ff_types::{Cite, Listed, Pairs};
 
-// The number of a pair that has one.
-fn number(pairs: &Pairs, f: u32, h: u32) -> u32
-    requires order { f < h }
-    requires listed { (n : ℕ) × (slice_get pairs.now n ≡ Some (f, h)) }
-    ensures { number_of pairs.now f h ≡ Some result }
-{
-    match pairs.number(f, h) {
-        Some(n) => n,
-        None => 0,
-    }
-}
-
-fn term(pairs: &Pairs, f: u32, h: u32) -> Term
+fn term(pairs: &Pairs, guesses: &[u32], f: u32, h: u32) -> Term
     requires order { f < h }
     requires listed { (n : ℕ) × (slice_get pairs.now n ≡ Some (f, h)) }
     ensures var { number_of pairs.now f h ≡ Some result.var }
     ensures flipped { result.flipped ≡ false }
 {
     Term {
-        var: number(pairs, f, h),
+        var: number(pairs, guesses, f, h),
         flipped: false,
     }
 }
 
 /// The constraint of the faces f < h < k, which overlap, with the corners of a cell that has them.
-pub fn listed(pairs: &Pairs, f: u32, h: u32, k: u32, cell: &Cell) -> Listed
+pub fn listed(pairs: &Pairs, guesses: &[u32], f: u32, h: u32, k: u32, cell: &Cell) -> Listed
     requires low { f < h }
     requires high { h < k }
     requires first { (n : ℕ) × (slice_get pairs.now n ≡ Some (f, h)) }
@@ -47,9 +36,9 @@ pub fn listed(pairs: &Pairs, f: u32, h: u32, k: u32, cell: &Cell) -> Listed
     ensures constraint { (g : Sheet) → IsConstraintOf g pairs.now result.cite result.constraint }
 {
     let mut terms: ArrayVec<Term, 6> = ArrayVec::new();
-    terms.push(term(pairs, f, h));
-    terms.push(term(pairs, f, k));
-    terms.push(term(pairs, h, k));
+    terms.push(term(pairs, guesses, f, h));
+    terms.push(term(pairs, guesses, f, k));
+    terms.push(term(pairs, guesses, h, k));
     Listed {
         constraint: Constraint {
             kind: Kind::Transitivity,

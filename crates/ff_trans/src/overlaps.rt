@@ -13,6 +13,7 @@ ghost use Rattle.ff_trans.specs.Rows.{IsFirst, IsRow, HoldBoth, AreIndexed, AreS
 
 use crate::bounds::most_triples;
 use crate::found::Found;
+use crate::guessing::guesses_of;
 use crate::index::{empty_lists, index};
 use crate::marking::mark_row;
 use crate::sharing::share;
@@ -176,7 +177,7 @@ fn take_pairs(
 }
 
 // No triples are found yet.
-fn nothing(alloc: Global, keeps: bool) -> Found
+fn nothing(alloc: Global, keeps: bool, guesses: Vec<u32>) -> Found
     ensures keeps { result.keeps ≡ keeps }
     ensures none { (cells : List CellRow) (pairs : List (ℕ × ℕ)) → AreFoundTo cells pairs 0 0 result }
 {
@@ -184,6 +185,7 @@ fn nothing(alloc: Global, keeps: bool) -> Found
         list: Listing::new(alloc),
         count: 0,
         keeps,
+        guesses,
     }
 }
 
@@ -227,7 +229,7 @@ fn count_first(
     if most_triples(pairs) <= MOST_CONSTRAINTS {
         return Ok(());
     }
-    let mut counted = nothing(alloc, false);
+    let mut counted = nothing(alloc, false, Vec::new(alloc));
     take_pairs(&mut counted, cells, pairs, lists, shared, row)
 }
 
@@ -250,7 +252,7 @@ fn listed_triples(alloc: Global, cells: &[Cell], pairs: &Pairs) -> Result<Listin
         shared.as_mut_slice(),
         row.as_mut_slice(),
     )?;
-    let mut listed = nothing(alloc, true);
+    let mut listed = nothing(alloc, true, guesses_of(alloc, pairs)?);
     take_pairs(
         &mut listed,
         cells,

@@ -41,7 +41,9 @@ pub fn take(found: &mut Found, pairs: &Pairs, f: u32, h: u32, k: u32, cell: &Cel
         return Err(too_many());
     }
     if found.keeps {
-        found.list.append(listed(pairs, f, h, k, cell))?;
+        found
+            .list
+            .append(listed(pairs, found.guesses.as_slice(), f, h, k, cell))?;
     }
     found.count += 1;
     Ok(())

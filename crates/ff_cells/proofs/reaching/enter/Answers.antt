@@ -12,11 +12,11 @@ pub reach-requires : goal.reach-requires
 reach-requires c =
     let bars = c.args.bars.now in
     let old = c.args.active.now in
-    let new : Active = record { bars = c.in_ok-active.field-0; reached = old.reached } in
+    let new : Active = record { bars = c.keep_lasting.new.v; reached = old.reached } in
     let a = to_z-of_z w64 c.args.a c.ranges.a in
     let z = to_z-of_z w64 c.args.c c.ranges.c in
     let is = subst (λ t. new.bars.items ≡ filter (lasts t) old.bars.items) z
-    (c.in_ok-active.ensures ∙ ap (filter (lasts (to_z w64 (of_z w64 c.args.c)))) c.as_slice.ensures.value) in
+    c.keep_lasting.ensures in
     subst (λ t. AreActive bars t (to_z w64 (of_z w64 c.args.c)) new) (sym a)
     (subst (λ t. AreActive bars c.args.a t new) (sym z)
     (lasting_on bars c.args.a c.args.c old new c.requires.rising c.requires.so_far refl is))

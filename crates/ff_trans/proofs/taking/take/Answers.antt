@@ -10,13 +10,13 @@ returns-clause-taken c = elim c.if-found.branch [
   | then-found+in_ok-append w ↦ (
     w.listed.result,
     record { cite = w.listed.ensures.cite; constraint = w.listed.ensures.constraint },
-    subst (λ (z : Found). IsTaken w.listed.result c.args.found.now (record { list = z.list; count = z.count + 1; keeps = z.keeps })) (sym w.found-is)
+    subst (λ (z : Found). IsTaken w.listed.result c.args.found.now (record { list = z.list; count = z.count + 1; keeps = z.keeps; guesses = z.guesses })) (sym w.found-is)
         (record { count = refl; keeps = refl; listed = λ t. w.in_ok-append.ensures.appended }),
   )
   | else-found w ↦ (let x = some_constraint c.args.pairs.now c.requires.sorted c.args.f c.args.h c.args.k c.args.cell.now.at c.requires.low c.requires.high c.requires.first c.requires.second c.requires.third in (
     x.0,
     x.1,
-    subst (λ (z : Found). IsTaken x.0 c.args.found.now (record { list = z.list; count = z.count + 1; keeps = z.keeps })) (sym w.found-is)
+    subst (λ (z : Found). IsTaken x.0 c.args.found.now (record { list = z.list; count = z.count + 1; keeps = z.keeps; guesses = z.guesses })) (sym w.found-is)
         (record { count = refl; keeps = refl; listed = λ t. absurd (true≢false (sym t ∙ w.if-found.false)) }),
   ))
 ]
