@@ -1,4 +1,4 @@
-mod Searching
+pub mod Searching
 mod Lists
 mod NoPins
 mod Pieces
