@@ -1,0 +1,13 @@
+mod Loops
+mod Noting
+mod Firsts
+mod NotedPairs
+mod Rows
+mod Creased
+mod Judging
+mod SaidOrders
+mod Geometry
+mod Rounds
+mod Crossed
+mod GivenFaces
+mod GivenItems

@@ -1,0 +1,5 @@
+pub mod Said
+pub mod Verdicts
+pub mod Laws
+pub mod Noted
+pub mod Given
