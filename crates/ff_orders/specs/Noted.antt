@@ -1,4 +1,5 @@
--- Which orders of each pair are said. For the proofs of this crate alone.
+-- Which orders of each pair are said.
+-- For the proofs of this crate alone.
 use Rattle.std.specs.Prelude.{◌≡◌, ℕ, ◌<◌, Bool, false, ◌&&◌, not, List, length, take, slice_get, slice_index_or, if◌then◌else◌, Some, IsTrue}
 use Rattle.ff_tables.specs.declared.orders.Order.{Order}
 use Rattle.ff_tables.specs.declared.orders.Order.TheVariants.{Below, Above}
