@@ -1,0 +1,13 @@
+mod AllBest
+mod Answered
+mod Apart
+mod Sums
+mod Costs
+mod Gathering
+mod Nearest
+mod OneBetter
+mod OneOutcome
+mod OnePart
+mod Noted
+mod Written
+mod Overlapping

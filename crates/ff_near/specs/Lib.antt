@@ -1,0 +1,10 @@
+pub mod Best
+pub mod Distance
+pub mod Filled
+pub mod Gathered
+pub mod Laws
+pub mod Near
+pub mod Noting
+pub mod Progress
+pub mod Weights
+pub mod Wishes
