@@ -13,9 +13,11 @@ is_bent-requires-clause-there c =
 
 pub loop-f-preserved : goal.loop-f-preserved
 loop-f-preserved c =
-    let e = read_ring c.args.rings.now c.loop-f.f _ _ c.loop-f-test.true c.index-rings-f.is c.as_slice.ensures in
-    below_more (λ k. IsUnbent c.args.points.now (ring_at c.args.rings.now k) (length (ring_at c.args.rings.now k))) c.loop-f.f c.loop-f.invariant
-    (subst (λ (r : List ℕ). IsUnbent c.args.points.now r (length r)) e (c.in_ok-is_bent.ensures c.if-branch.false))
+    let e = read_ring c.args.rings.now c.loop-f.f _ _ c.loop-f-test.true c.index-rings-f.is c.as_slice.ensures in (
+      c.is_bent.ensures.marked,
+      below_more (λ k. IsUnbent c.args.points.now (ring_at c.args.rings.now k) (length (ring_at c.args.rings.now k))) c.loop-f.f c.loop-f.invariant.1
+          (subst (λ (r : List ℕ). IsUnbent c.args.points.now r (length r)) e (c.in_ok-is_bent.ensures.bent c.if-branch.false)),
+    )
 
 pub returns : goal.returns
-returns c = λ _ f l. c.loop-f.invariant f (omega (arith, l, c.loop-f-test.false))
+returns c = λ _ f l. c.loop-f.invariant.1 f (omega (arith, l, c.loop-f-test.false))

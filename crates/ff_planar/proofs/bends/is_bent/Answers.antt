@@ -10,14 +10,14 @@ pub is_convex-requires-clause-near : goal.is_convex-requires-clause-near
 is_convex-requires-clause-near c = subst (All IsNear) (sym (c.as_slice.ensures.value ∙ c.in_ok-list.ensures)) (corners_near c.args.points.now c.args.ring.now c.requires.near c.requires.there)
 
 pub is_convex-requires-clause-apart : goal.is_convex-requires-clause-apart
-is_convex-requires-clause-apart c = subst AreApart (sym (c.as_slice.ensures.value ∙ c.in_ok-list.ensures)) (corners_apart c.args.points.now c.args.ring.now c.requires.apart c.requires.there (c.meets.ensures c.if-meets.false))
+is_convex-requires-clause-apart c = subst AreApart (sym (c.as_slice.ensures.value ∙ c.in_ok-list.ensures)) (corners_apart c.args.points.now c.args.ring.now c.requires.apart c.requires.there (c.meets.ensures.differ c.if-meets.false))
 
 negated : (b : Bool) → not b ≡ false → b ≡ true
 negated true e = refl
 negated false e = absurd (false≢true (sym e))
 
-pub returns : goal.returns
-returns c = λ e.
+pub returns-clause-bent : goal.returns-clause-bent
+returns-clause-bent c = λ e.
     convex_unbent c.args.points.now c.args.ring.now
     (subst IsConvex (c.as_slice.ensures.value ∙ c.in_ok-list.ensures) (c.is_convex.ensures.0 (negated c.is_convex.result e)))
-    (c.meets.ensures c.if-meets.false)
+    (c.meets.ensures.differ c.if-meets.false)
