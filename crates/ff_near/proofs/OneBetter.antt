@@ -1,5 +1,5 @@
 -- One solution more.
-use Rattle.std.proofs.Common.{◌≡◌, ℕ, zero, suc, ◌<◌, ◌≤◌, ◌⊎◌, inl, inr, ◌∙◌, refl, sym, ap, subst, arith, List, [], ◌∷◌, ◌++◌, length, slice_get, Some, Contains}
+use Rattle.std.proofs.Common.{◌≡◌, ℕ, zero, suc, ◌<◌, ◌≤◌, inl, inr, ◌∙◌, refl, sym, ap, subst, arith, List, [], ◌∷◌, ◌++◌, length, slice_get, Some}
 use Rattle.std.proofs.lemmas.Option.{slice_get_within}
 use Rattle.std.proofs.lemmas.List.Elements.{Contains-append_left, Contains-append_right}
 use Rattle.ff_basics.proofs.Lists.{get_before, get_last, get_either}
@@ -17,28 +17,6 @@ module _ (cost_of : List Order → ℕ) (solutions : List (List Order)) (least :
   only : (x : ℕ) (i n : ℕ) → slice_get (x ∷ []) i ≡ Some n → (i ≡ 0) × (n ≡ x)
   only x zero n e = (refl, sym (one_number x n e))
   only x (suc i) n e = cc
-
-  -- it costs less than all others
-  pub less_than_all : (length best ≡ 0) ⊎ (cost_of values < least) → AreLeast cost_of (solutions ++ values ∷ []) (cost_of values) (length solutions ∷ []) values
-  less_than_all less = record {
-    some = λ l. omega arith;
-    each = λ i n e. (values, subst (λ k. slice_get (solutions ++ values ∷ []) k ≡ Some values) (sym (only (length solutions) i n e).1) (get_last solutions values), refl);
-    all = λ n s e. elim (get_either solutions values s n e) [
-      | inl there ↦ earlier n s there less
-      | inr last ↦ let same : cost_of values ≡ cost_of s = ap cost_of (one_value values s (sym (get_last solutions values) ∙ subst (λ k. slice_get (solutions ++ values ∷ []) k ≡ Some s) last.0 e)) in
-          (omega (arith, same), λ f. subst (λ k. Contains (length solutions ∷ []) k) (sym last.0) (0, omega arith, refl))
-    ];
-    rising = λ i j m n l e f. let a = only (length solutions) i m e in let b = only (length solutions) j n f in omega (arith, l, a.0, b.0);
-    first_is = λ n e. subst (λ k. slice_get (solutions ++ values ∷ []) k ≡ Some values) (sym (only (length solutions) 0 n e).1) (get_last solutions values);
-  } where
-    earlier : (n : ℕ) (s : List Order) → slice_get solutions n ≡ Some s → (length best ≡ 0) ⊎ (cost_of values < least)
-        → (cost_of values ≤ cost_of s) × (cost_of s ≡ cost_of values → Contains (length solutions ∷ []) n)
-    earlier n s there (inl none) = let l = slice_get_within solutions n s there in let m = are.some (omega (arith, l)) in absurd (nothing (length best) none m) where
-      nothing : (k : ℕ) → k ≡ 0 → 0 < k → ⊥
-      nothing k e l = omega (arith, e, l)
-    earlier n s there (inr less) = let l = (are.all n s there).0 in (omega (arith, l, less), λ e. absurd (nothing l e)) where
-      nothing : least ≤ cost_of s → cost_of s ≡ cost_of values → ⊥
-      nothing l e = omega (arith, l, e, less)
 
   -- it costs as much as the best
   pub as_much : 0 < length best → cost_of values ≡ least → AreLeast cost_of (solutions ++ values ∷ []) least (best ++ length solutions ∷ []) first

@@ -1,12 +1,15 @@
 -- One part more.
-use Rattle.std.proofs.Common.{◌≡◌, ℕ, ◌+◌, ◌<◌, ◌⊎◌, inl, inr, ◌∙◌, refl, sym, ap, subst, arith, List, [], ◌∷◌, ◌++◌, length, take, slice_get, slice_index_or, Option, Some}
+use Rattle.std.proofs.Common.{◌≡◌, ℕ, ◌+◌, ◌<◌, ◌⊎◌, inl, inr, ◌∙◌, refl, sym, ap, subst, arith, List, [], ◌∷◌, ◌++◌, length, take, slice_get, slice_index_or, option_map, Option, Some}
 use Rattle.std.proofs.lemmas.List.{length-append, take_more, length-take-le}
-use Rattle.std.proofs.lemmas.Option.{slice_get_within}
+use Rattle.std.proofs.lemmas.Option.{slice_get_within, slice_get-map}
 use Rattle.ff_basics.proofs.Lists.{get_either}
 use Rattle.ff_tables.specs.declared.orders.Order.{Order}
 use Rattle.ff_types.specs.declared.cases.Case.{Case}
 use Rattle.ff_types.specs.declared.pins.Pin.{Pin}
 use Rattle.ff_propagate.specs.declared.parts.Part.{Part}
+use Rattle.ff_tables.specs.declared.terms.Constraint.{Constraint}
+use Rattle.ff_propagate.specs.Parts.{IsPart, AreParts}
+use Rattle.ff_parts.specs.Lists.{vars_of}
 use Rattle.ff_near.specs.declared.parts.PartBest.{PartBest}
 use Rattle.ff_near.specs.declared.parts.PartNear.{PartNear}
 use Rattle.ff_near.specs.Best.{ComesTo}
@@ -53,3 +56,8 @@ module _ (case : Case) (list : List Pin) (value : ℕ → Option Order) (budget 
         (more_outcomes case list value budget (take k parts) h.outcomes h.are part outcome comes);
     gathered = gathers h.outcomes (sym (h.are.as_many ∙ length-take-le k parts (omega (arith, l)))) h.gathered;
   }
+
+-- each part of a board's parts is a part
+pub each_part : (vars : ℕ) (cons : List Constraint) (value : ℕ → Option Order) (parts : List Part) → AreParts vars cons value (vars_of parts)
+    → (k : ℕ) (part : Part) → slice_get parts k ≡ Some part → IsPart vars cons value part.vars
+each_part vars cons value parts are k part e = are.each k part.vars (slice_get-map (λ (p : Part). p.vars) parts k ∙ ap (option_map (λ (p : Part). p.vars)) e)

@@ -117,10 +117,7 @@ pub fn near(
     budget: u64,
 ) -> Result<Near, NoMemory>
     requires board { IsBoardOf case.now.system.vars case.now.system.constraints facts.now }
-    requires wide { length facts.now ≡ case.now.system.vars }
     requires parts { AreParts case.now.system.vars case.now.system.constraints (value_at facts.now) (vars_of parts.now) }
-    requires each { (k : ℕ) (part : PartSpec) → slice_get parts.now k ≡ Some part
-        → IsPart case.now.system.vars case.now.system.constraints (value_at facts.now) part.vars }
     requires touching { (k : ℕ) (part : PartSpec) → slice_get parts.now k ≡ Some part
         → AreTouching case.now.system.constraints part.vars part.touching }
     requires few { length case.now.system.constraints < 2 ^ 32 }
